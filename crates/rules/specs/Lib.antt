@@ -1,0 +1,14 @@
+pub mod Sizes
+pub mod Span
+pub mod Distance
+pub mod Classes
+pub mod Register
+pub mod Tables
+pub mod Refusals
+pub mod Build
+pub mod Search
+pub mod Join
+pub mod Front
+pub mod Walk
+pub mod Waits
+pub mod Yard

@@ -1,0 +1,105 @@
+// The types that the promises speak of. The rules about them are the definitions in specs/, their laws stand in proofs/.
+
+// n by n tiles, each side cm wide and high.
+pub struct Grid {
+    pub n: u32,
+    pub side: u32,
+}
+
+// The coordinates lo..hi of one dimension, both ends belonging to it.
+pub struct Span {
+    pub lo: u32,
+    pub hi: u32,
+}
+
+// A rectangle of coordinate points.
+pub struct Rect {
+    pub x: Span,
+    pub y: Span,
+}
+
+// A coordinate point.
+pub struct Point {
+    pub x: u32,
+    pub y: u32,
+}
+
+// Why a call is refused. The definition `paper` gives the numbers 1, 2, 3, 4, 5, 7, 6 and 8, in this order.
+pub enum Refusal {
+    Sizes,
+    Lengths,
+    // the lowest footprint that meets it
+    Footprint(u32),
+    Place,
+    Radius,
+    Damage,
+    // the numbers needed
+    Room(u64),
+    // the first bad or missing line
+    Text(u32),
+}
+
+// Done holds the entries built, the hits, the pairs or the rows given; of a start, 0.
+pub enum Answer {
+    Done(u64),
+    Refused(Refusal),
+}
+
+pub enum Checked {
+    Yes,
+    No,
+    Refused(Refusal),
+}
+
+// Where a run begins and ends among the entries.
+pub enum Ends {
+    At(usize, usize),
+    Refused(Refusal),
+}
+
+pub enum Direction {
+    Up,
+    Right,
+    Down,
+    Left,
+}
+
+// A group of some direction and level, a tile, or a footprint.
+pub enum Item {
+    Group(Direction, u32),
+    Tile(u32),
+    Footprint(u32),
+}
+
+// What is taken off the front.
+pub struct Row {
+    pub square: u64,
+    pub item: Item,
+}
+
+// A waiting row as it lies in memory.
+pub struct Three {
+    pub square: u64,
+    pub kind: u64,
+    pub number: u64,
+}
+
+// What three numbers stand for, if anything.
+pub enum Read {
+    Known(Row),
+    Unknown,
+}
+
+// The state of a walk: its point, how many rows wait, and the damage mark.
+pub struct Walk {
+    pub x: u32,
+    pub y: u32,
+    pub waiting: usize,
+    pub damaged: bool,
+}
+
+// A start's or an ask's answer, and the state after it.
+pub struct Walked {
+    pub answer: Answer,
+    pub walk: Walk,
+}
