@@ -1,0 +1,9 @@
+pub mod Tests
+pub mod Numbers
+pub mod Lists
+pub mod Ranges
+pub mod Members
+pub mod Apart
+pub mod Counting
+pub mod Places
+pub mod Machine
