@@ -1,1 +1,5 @@
+pub mod Good
+pub mod Spans
+pub mod Classes
+pub mod Report
 pub mod Starred
