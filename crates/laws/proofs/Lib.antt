@@ -6,4 +6,5 @@ pub mod Members
 pub mod Apart
 pub mod Counting
 pub mod Places
+pub mod Blocks
 pub mod Machine

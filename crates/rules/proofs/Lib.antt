@@ -2,4 +2,5 @@ pub mod Good
 pub mod Spans
 pub mod Classes
 pub mod Report
+pub mod Built
 pub mod Starred
