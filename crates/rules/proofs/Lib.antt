@@ -3,4 +3,7 @@ pub mod Spans
 pub mod Classes
 pub mod Report
 pub mod Built
+pub mod Visits
+pub mod Papers
+pub mod Unique
 pub mod Starred
