@@ -7,4 +7,5 @@ pub mod Apart
 pub mod Counting
 pub mod Places
 pub mod Blocks
+pub mod Same
 pub mod Machine
