@@ -8,3 +8,4 @@ pub mod Counting
 pub mod Places
 pub mod Machine
 pub mod Lexicographic
+pub mod Choices

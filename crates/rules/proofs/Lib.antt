@@ -1,3 +1,4 @@
 pub mod Starred
 pub mod Order
 pub mod Memory
+pub mod Encoding
