@@ -9,3 +9,4 @@ pub mod Places
 pub mod Machine
 pub mod Lexicographic
 pub mod Choices
+pub mod Totals

@@ -2,3 +2,5 @@ pub mod Starred
 pub mod Order
 pub mod Memory
 pub mod Encoding
+pub mod Burden
+pub mod Steps
