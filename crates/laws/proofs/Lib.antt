@@ -10,3 +10,4 @@ pub mod Machine
 pub mod Lexicographic
 pub mod Choices
 pub mod Totals
+pub mod Lines

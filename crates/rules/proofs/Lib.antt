@@ -4,3 +4,4 @@ pub mod Memory
 pub mod Encoding
 pub mod Burden
 pub mod Steps
+pub mod GroupLines

@@ -1,16 +1,12 @@
 -- The tiles of a group as a line of tile numbers. Assumes nothing.
-use mathlib.Core.List.{List, [], _∷_}
-use Prim.Native.Nat.{ℕ, zero, suc, _+_, _-_, min}
+use mathlib.Core.List.{List}
+use Prim.Native.Nat.{ℕ, _+_, _-_, min}
+use Rattle.laws.specs.Lines.{line}
 use Rattle.rules.specs.Sizes.{column, tileNo}
 use Rattle.rules.specs.declared.Grid.{Grid}
 use Rattle.rules.specs.declared.Point.{Point}
 use Rattle.rules.specs.declared.Direction.{Direction}
 use Rattle.rules.specs.declared.Direction.the-variants.{Up, Right, Down, Left}
-
--- k numbers from s on, d apart
-abbrev pub line : ℕ → ℕ → ℕ → List ℕ
-line s d zero = []
-line s d (suc k) = s ∷ line (s + d) d k
 
 -- where the numbers begin, how far apart they are, and how many there are
 pub record Line : Type 0 where
