@@ -9,3 +9,7 @@ pub mod Places
 pub mod Blocks
 pub mod Same
 pub mod Machine
+pub mod Lexicographic
+pub mod Choices
+pub mod Totals
+pub mod Lines

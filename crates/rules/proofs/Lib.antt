@@ -7,3 +7,9 @@ pub mod Visits
 pub mod Papers
 pub mod Unique
 pub mod Starred
+pub mod Order
+pub mod Memory
+pub mod Encoding
+pub mod Burden
+pub mod Steps
+pub mod GroupLines
