@@ -8,3 +8,4 @@ pub mod Counting
 pub mod Places
 pub mod Blocks
 pub mod Machine
+pub mod Pairs

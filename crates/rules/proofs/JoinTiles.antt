@@ -68,8 +68,8 @@ module _ (g : Grid) (pos : 0 < g .side) (a b : Rect) (okA : GoodRect g a) (okB :
     -- of all pairs of runs that the two stand in and that are visited, one lists them where they are within r
     pub listed-in-one-pair : (k m : ℕ)
         → (neighbours g (k / 16) (m / 16) && (markedIn g (k / 16) (m / 16) (k % 16) (m % 16)
-        && ((shares (tileRect g (k / 16)) a && eqb (classOf g (k / 16) a) (k % 16))
-        && ((shares (tileRect g (m / 16)) b && eqb (classOf g (m / 16) b) (m % 16)) && within r a b))))
+        && ((shares (tileRect g (k / 16)) a && eqb (classOf g (k / 16) a) (k % 16)
+        && (shares (tileRect g (m / 16)) b && eqb (classOf g (m / 16) b) (m % 16))) && within r a b)))
         ≡ (eqb k (reportRun g (corner b) a) && eqb m (reportRun g (corner a) b) && within r a b)
     listed-in-one-pair k m = iff _ _ there back
       where
@@ -94,16 +94,16 @@ module _ (g : Grid) (pos : 0 < g .side) (a b : Rect) (okA : GoodRect g a) (okB :
         mark : Bool
         mark = markedIn g t u (k % 16) (m % 16)
 
-        there : (neighbours g t u && (mark && (standsA && (standsB && within r a b)))) ≡ true
+        there : (neighbours g t u && (mark && (standsA && standsB && within r a b))) ≡ true
             → (eqb k (reportRun g (corner b) a) && eqb m (reportRun g (corner a) b) && within r a b) ≡ true
         there e =
-            let e₁ : (mark && (standsA && (standsB && within r a b))) ≡ true = snd-true (neighbours g t u) _ e in
-            let e₂ : (standsA && (standsB && within r a b)) ≡ true = snd-true mark _ e₁ in
-            let e₃ : (standsB && within r a b) ≡ true = snd-true standsA _ e₂ in
-            let ca : classOf g t a ≡ k % 16 = eqb-true _ _ (snd-true (shares (tileRect g t) a) _ (fst-true standsA _ e₂)) in
-            let cb : classOf g u b ≡ m % 16 = eqb-true _ _ (snd-true (shares (tileRect g u) b) _ (fst-true standsB _ e₃)) in
+            let e₁ : (mark && (standsA && standsB && within r a b)) ≡ true = snd-true (neighbours g t u) _ e in
+            let e₂ : (standsA && standsB && within r a b) ≡ true = snd-true mark _ e₁ in
+            let e₃ = all-three standsA standsB (within r a b) e₂ in
+            let ca : classOf g t a ≡ k % 16 = eqb-true _ _ (snd-true (shares (tileRect g t) a) _ (e₃ .0)) in
+            let cb : classOf g u b ≡ m % 16 = eqb-true _ _ (snd-true (shares (tileRect g u) b) _ (e₃ .1)) in
             let both : (shares (tileRect g t) a && shares (tileRect g u) b) ≡ true =
-            both-true (fst-true (shares (tileRect g t) a) _ (fst-true standsA _ e₂)) (fst-true (shares (tileRect g u) b) _ (fst-true standsB _ e₃)) in
+            both-true (fst-true (shares (tileRect g t) a) _ (e₃ .0)) (fst-true (shares (tileRect g u) b) _ (e₃ .1)) in
             let at : (eqb t RT && eqb u ST) ≡ true = sym (joined-in-one-pair t u) ∙ rw (both, ca, cb) (fst-true mark _ e₁) in
             let et : t ≡ RT = eqb-true t RT (fst-true (eqb t RT) (eqb u ST) at) in
             let eu : u ≡ ST = eqb-true u ST (snd-true (eqb t RT) (eqb u ST) at) in
@@ -111,10 +111,10 @@ module _ (g : Grid) (pos : 0 < g .side) (a b : Rect) (okA : GoodRect g a) (okB :
             (both-true
             (eq-eqb _ _ (run-reports g pos (corner b) a okA k et (sym ca)))
             (eq-eqb _ _ (run-reports g pos (corner a) b okB m eu (sym cb))))
-            (snd-true standsB (within r a b) e₃)
+            (e₃ .2)
 
         back : (eqb k (reportRun g (corner b) a) && eqb m (reportRun g (corner a) b) && within r a b) ≡ true
-            → (neighbours g t u && (mark && (standsA && (standsB && within r a b)))) ≡ true
+            → (neighbours g t u && (mark && (standsA && standsB && within r a b))) ≡ true
         back e =
             let p = all-three (eqb k (reportRun g (corner b) a)) (eqb m (reportRun g (corner a) b)) (within r a b) e in
             let ek : k ≡ reportRun g (corner b) a = eqb-true _ _ (p .0) in
