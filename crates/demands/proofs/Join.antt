@@ -1,30 +1,42 @@
 -- Demand 2 for the join: on built tables, any tails behind their entries, no join meets damage, its pairs are the declared list, and each
 -- pair within r stands there once and no other. Assumes nothing.
 use mathlib.Core.Path.{_≡_, refl, sym, ap, ap₂, _∙_}
-use mathlib.Core.Bool.{Bool, true, false, _&&_, cond}
+use mathlib.Core.Bool.{Bool, true, false, _&&_, and-assoc, cond}
 use mathlib.Core.List.{List, [], _∷_, List·Memᴰ}
 use Prim.Native.Nat.{ℕ, _+_, _*_, _/_, _%_, _≤_, _<_}
-use native.Mathlib.Nat.{zero-add}
 use native.Mathlib.Omega.{arith}
 use lib.Dec.{ltb, eqb}
 use lib.ListN.{length}
-use borrow.Author.Tests.{le-ltb}
+use borrow.Author.Tests.{ltb-true, le-ltb, eqb-true, eq-eqb}
 use Rattle.laws.specs.Lists.{filter, upTo, each, only}
-use Rattle.laws.proofs.Lists.{each-filter, only-each, only-filter, filter-filter, filter-same}
+use Rattle.laws.specs.Pairs.{samePair, pairTimes}
+use Rattle.laws.proofs.Tests.{by-bool, iff, fst-true, snd-true, both-true, cross}
+use Rattle.laws.proofs.Lists.{filter-each, each-filter, each-same, only-each, only-filter, filter-filter, filter-same}
 use Rattle.laws.proofs.Ranges.{mem-from, each-from}
-use Rattle.laws.proofs.Pairs.{mem-pairs, pairs-of-filters}
+use Rattle.laws.proofs.Pairs.{mem-pairs, pairs-of-filters, test-out, pair-once, one-in-four, each-empty}
 use Rattle.rules.specs.Sizes.{tileCount, tiles}
 use Rattle.rules.specs.Distance.{within}
 use Rattle.rules.specs.Classes.{classes, markedIn}
 use Rattle.rules.specs.Register.{count, footprints, rectangle}
-use Rattle.rules.specs.Tables.{Tables, runNo, runs, runAt, stands, builtRun, builtTables}
-use Rattle.rules.specs.Refusals.{Paper, pass, fit}
-use Rattle.rules.specs.Join.{Pair, neighbours, lists, pairsOf, runPairs, classPairs, tilePairs, joinPairs, pairWrites, joinVerdict, joins, pairRuns, pairedIn, declaredPairs}
+use Rattle.rules.specs.Tables.{Tables, runNo, runs, stands, builtRun, builtTables}
+use Rattle.rules.specs.Refusals.{pass, fit}
+use Rattle.rules.specs.Join.{Pair, neighbours, lists, pairsOf, runPairs, classPairs, tilePairs, joinPairs, pairWrites, joinVerdict, joins, corner, pairRuns, pairedIn, declaredPairs}
 use Rattle.rules.specs.declared.Grid.{Grid}
 use Rattle.rules.proofs.Good.{good-sizes, Accepted, good-footprint}
-use Rattle.rules.proofs.Report.{run-tile, run-class, run-below}
+use Rattle.rules.proofs.Report.{run-tile, run-class, run-below, report-run-below}
 use Rattle.rules.proofs.Built.{built-run, good-lengths, no-damage-in}
 use Rattle.rules.proofs.JoinTiles.{listed-in-one-pair}
+
+-- a run is known by its tile and its class
+run-known : (t a k : ℕ) → a < 16 → eqb (runNo t a) k ≡ (eqb t (k / 16) && eqb a (k % 16))
+unfolding runNo
+run-known t a k h =
+    iff _ _
+    (λ e. let f : 16 * t + a ≡ k = eqb-true _ _ e in both-true (eq-eqb t (k / 16) (omega arith)) (eq-eqb a (k % 16) (omega arith)))
+    (λ e.
+    let f : t ≡ k / 16 = eqb-true _ _ (fst-true (eqb t (k / 16)) _ e) in
+    let l : a ≡ k % 16 = eqb-true _ _ (snd-true (eqb t (k / 16)) _ e) in
+    eq-eqb (16 * t + a) k (omega arith))
 
 -- the same at every class
 each-class : (f h : ℕ → List Pair) → ((k : ℕ) → k < 16 → f k ≡ h k) → each f classes ≡ each h classes
@@ -75,6 +87,7 @@ module _ (g : Grid) (regR tailR regS tailS : List ℕ) (okR : Accepted g regR) (
         rw (run-tile t a ha, run-class t a ha, run-tile u b hb, run-class u b hb)
         (rw (run-tile t a ha, run-class t a ha, run-tile u b hb, run-class u b hb) at e)
 
+    -- so the pairs of these runs are those declared there
     runs-join : only (neighbours g t u) (only (markedIn g t u a b) (runPairs g tr ts r (runNo t a) (runNo u b)))
         ≡ filter (pairedIn g regR regS r (runNo t a) (runNo u b)) (pairsOf (footprints regR) (footprints regS))
     unfolding runPairs builtRun builtTables footprints
@@ -114,9 +127,91 @@ module _ (g : Grid) (regR tailR regS tailS : List ℕ) (okR : Accepted g regR) (
   join-is-declared =
       each-tile g _ _ (λ t ht. each-filter (neighbours g t) (tilePairs g tr ts r t) (tiles g) ∙ each-tile g _ _ (λ u hu. tiles-join t u ht hu))
 
+  -- ---- each pair within r once, and no other
+
+  module _ (i j : ℕ) where
+    -- the pair, where both are footprints
+    abbrev once : List Pair
+    once = filter (samePair (i, j)) (pairsOf (footprints regR) (footprints regS))
+
+    -- the two are within r
+    abbrev near : Bool
+    near = within r (rectangle g regR i) (rectangle g regS j)
+
+    -- its pair of runs
+    abbrev runR : ℕ
+    runR = pairRuns g (rectangle g regR i) (rectangle g regS j) .0
+
+    abbrev runS : ℕ
+    runS = pairRuns g (rectangle g regR i) (rectangle g regS j) .1
+
+    -- tiles and classes are those of its runs, and it is within r
+    abbrev here : ℕ → ℕ → ℕ → ℕ → Bool
+    here t u a b = eqb t (runR / 16) && eqb u (runS / 16) && eqb a (runR % 16) && eqb b (runS % 16) && near
+
+    its-runs : (t u a b : ℕ) → a < 16 → b < 16 → pairedIn g regR regS r (runNo t a) (runNo u b) (i, j) ≡ here t u a b
+    unfolding pairedIn
+    its-runs t u a b ha hb =
+        rw (run-known t a runR ha, run-known u b runS hb) (regroup (eqb t (runR / 16)) (eqb a (runR % 16)) (eqb u (runS / 16)) (eqb b (runS % 16)) near)
+      where
+        regroup : (a b c d e : Bool) → ((a && b) && (c && d) && e) ≡ (a && c && b && d && e)
+        regroup a b c d e = ap (λ (x : Bool). x && e) (cross a b c d ∙ sym (and-assoc (a && c) b d))
+
+    -- looked for among the declared pairs, it is found at its one pair of runs
+    at-its-runs : filter (samePair (i, j)) (declaredPairs g regR regS r)
+        ≡ each (λ t. each (λ u. each (λ a. each (λ b. only (here t u a b) once) classes) classes) (tiles g)) (tiles g)
+    unfolding declaredPairs
+    at-its-runs =
+        filter-each (samePair (i, j)) _ (tiles g)
+        ∙ each-same _ _ (tiles g) (λ t. filter-each (samePair (i, j)) _ (tiles g)
+        ∙ each-same _ _ (tiles g) (λ u. filter-each (samePair (i, j)) _ classes
+        ∙ each-class _ _ (λ a ha. filter-each (samePair (i, j)) _ classes
+        ∙ each-class _ _ (λ b hb.
+        filter-filter (samePair (i, j)) (pairedIn g regR regS r (runNo t a) (runNo u b)) (pairsOf (footprints regR) (footprints regS))
+        ∙ test-out (pairedIn g regR regS r (runNo t a) (runNo u b)) (i, j) (pairsOf (footprints regR) (footprints regS))
+        ∙ ap (λ (x : Bool). only x once) (its-runs t u a b ha hb)))))
+
+    -- these runs are on the grid
+    runs-below : i < count regR → j < count regS → (runR < runs g) × (runS < runs g)
+    unfolding pairRuns
+    runs-below hi hj =
+        let pos = good-sizes g (okR .sizes) .side-pos in (
+          report-run-below g pos (corner (rectangle g regS j)) (rectangle g regR i) (good-footprint g regR okR i hi),
+          report-run-below g pos (corner (rectangle g regR i)) (rectangle g regS j) (good-footprint g regS okS j hj),
+        )
+
+    found : filter (samePair (i, j)) (declaredPairs g regR regS r) ≡ only (ltb i (count regR) && ltb j (count regS) && near) ((i, j) ∷ [])
+    unfolding footprints tiles classes runs
+    found =
+        at-its-runs
+        ∙ by-bool (ltb i (count regR) && ltb j (count regS))
+        (λ e.
+        let h = runs-below (ltb-true i (count regR) (fst-true _ (ltb j (count regS)) e)) (ltb-true j (count regS) (snd-true (ltb i (count regR)) _ e)) in
+        one-in-four near once (runR / 16) (runS / 16) (runR % 16) (runS % 16) (tileCount g) (tileCount g) 16 16 (omega arith) (omega arith) (omega arith) (omega arith)
+        ∙ ap (only near) (pair-once i j (count regR) (count regS)) ∙ rw e refl)
+        (λ e.
+        let h : once ≡ [] = pair-once i j (count regR) (count regS) ∙ rw e refl in
+        each-empty _ (tiles g) (λ t. each-empty _ (tiles g) (λ u. each-empty _ classes (λ a. each-empty _ classes (λ b. nowhere (here t u a b) h))))
+        ∙ rw e refl)
+      where
+        nowhere : (b : Bool) → once ≡ [] → only b once ≡ []
+        nowhere true h = h
+        nowhere false h = refl
+
+    declared-once : pairTimes (i, j) (declaredPairs g regR regS r) ≡ cond (ltb i (count regR) && ltb j (count regS) && near) 1 0
+    declared-once = ap length found ∙ times (ltb i (count regR) && ltb j (count regS) && near)
+      where
+        times : (b : Bool) → length {A = Pair} (only b ((i, j) ∷ [])) ≡ cond b 1 0
+        times true = refl
+        times false = refl
+
+    -- a join lists the two once where they are footprints of their registers and within r, and else not
+    pub each-pair-once : pairTimes (i, j) (joinPairs g tr ts r)
+        ≡ cond (ltb i (count regR) && ltb j (count regS) && within r (rectangle g regR i) (rectangle g regS j)) 1 0
+    each-pair-once = ap (pairTimes (i, j)) join-is-declared ∙ declared-once
+
   -- the whole promise: the declared pairs, where they find room
   pub join-gives-declared : (out : List ℕ)
       → joins g tr ts r out ≡ fit (length (declaredPairs g regR regS r)) (each pairWrites (declaredPairs g regR regS r)) out
   unfolding joins
   join-gives-declared out = rw (join-passes, join-is-declared)
-
