@@ -13,3 +13,4 @@ pub mod Lexicographic
 pub mod Choices
 pub mod Totals
 pub mod Lines
+pub mod Pairs

@@ -6,6 +6,8 @@ pub mod Built
 pub mod Visits
 pub mod Papers
 pub mod Unique
+pub mod JoinSpans
+pub mod JoinTiles
 pub mod Starred
 pub mod Order
 pub mod Memory

@@ -109,11 +109,11 @@ module _ (g : Grid) (pos : 0 < g .side) where
     unfolding reportRun
     report-run-tile = run-tile (reportTile g q a) (classOf g (reportTile g q a) a) (class-below g (reportTile g q a) a)
 
-    report-run-class : reportRun g q a % 16 ≡ classOf g (reportTile g q a) a
+    pub report-run-class : reportRun g q a % 16 ≡ classOf g (reportTile g q a) a
     unfolding reportRun
     report-run-class = run-class (reportTile g q a) (classOf g (reportTile g q a) a) (class-below g (reportTile g q a) a)
 
-    run-reports : (k : ℕ) → k / 16 ≡ reportTile g q a → k % 16 ≡ classOf g (k / 16) a → k ≡ reportRun g q a
+    pub run-reports : (k : ℕ) → k / 16 ≡ reportTile g q a → k % 16 ≡ classOf g (k / 16) a → k ≡ reportRun g q a
     unfolding reportRun
     run-reports k w e = sym (run-again k) ∙ ap₂ runNo w (e ∙ ap (λ (n : ℕ). classOf g n a) w)
 
