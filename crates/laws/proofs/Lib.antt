@@ -7,3 +7,4 @@ pub mod Apart
 pub mod Counting
 pub mod Places
 pub mod Machine
+pub mod Computed
