@@ -14,3 +14,4 @@ pub mod Choices
 pub mod Totals
 pub mod Lines
 pub mod Pairs
+pub mod Computed
