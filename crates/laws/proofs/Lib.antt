@@ -9,3 +9,4 @@ pub mod Places
 pub mod Blocks
 pub mod Machine
 pub mod Pairs
+pub mod Rows

@@ -5,4 +5,5 @@ pub mod Report
 pub mod Built
 pub mod JoinSpans
 pub mod JoinTiles
+pub mod JoinBoxes
 pub mod Starred
