@@ -1,7 +1,7 @@
 -- A range of m×n numbers as m rows of n; concatenations of concatenations; a test that passes in one window of a range. Assumes nothing.
 use mathlib.Core.Path.{_≡_, refl, sym, ap, ap₂, _∙_}
 use mathlib.Core.Bool.{Bool, true, false}
-use mathlib.Core.List.{List, [], _∷_, _++_, append-nil}
+use mathlib.Core.List.{List, [], _∷_, _++_, map, append-nil}
 use Prim.Native.Nat.{ℕ, zero, suc, _+_, _*_, _/_, _%_, _≤_, _<_}
 use native.Mathlib.Nat.{zero-add, add-zero, add-suc, suc-mul, zero-mul}
 use native.Mathlib.Omega.{arith}
@@ -15,6 +15,15 @@ module _ {A : Type 0} where
   pub each-each : {B C : Type 0} (f : B → List A) (h : C → List B) (l : List C) → each f (each h l) ≡ each (λ x. each f (h x)) l
   each-each f h [] = refl
   each-each f h (x ∷ l) = each-append f (h x) (each h l) ∙ ap (λ (t : List A). each f (h x) ++ t) (each-each f h l)
+
+  pub each-map : {B C : Type 0} (f : B → List A) (h : C → B) (l : List C) → each f (map h l) ≡ each (λ x. f (h x)) l
+  each-map f h [] = refl
+  each-map f h (x ∷ l) = ap (λ (t : List A). f (h x) ++ t) (each-map f h l)
+
+  -- two lists that are equal where a test passes
+  pub only-where : {l m : List A} (b : Bool) → (b ≡ true → l ≡ m) → only b l ≡ only b m
+  only-where true f = f refl
+  only-where false f = refl
 
   -- what stands alone, where a test passes
   pub each-alone : {B : Type 0} (f : B → List A) (b : Bool) (x : B) → each f (only b (x ∷ [])) ≡ only b (f x)
@@ -62,7 +71,7 @@ filter-all (x ∷ l) = ap (λ (t : List ℕ). x ∷ t) (filter-all l)
 
 -- a test that passes in one window of a range leaves that window
 pub window : (p : ℕ → Bool) (a k m : ℕ) → ((j : ℕ) → j < a → p j ≡ false) → ((j : ℕ) → a ≤ j → j < a + k → p j ≡ true)
-    → ((j : ℕ) → a + k ≤ j → p j ≡ false) → filter p (upTo (a + k + m)) ≡ from a k
+    → ((j : ℕ) → a + k ≤ j → j < a + k + m → p j ≡ false) → filter p (upTo (a + k + m)) ≡ from a k
 window p a k m below here above =
     ap (filter p) (from-append 0 (a + k) m ∙ ap₂ _++_ (from-append 0 a k) (ap (λ (n : ℕ). from n m) (zero-add (a + k))))
     ∙ filter-append p (upTo a ++ from (0 + a) k) (from (a + k) m)
@@ -71,5 +80,5 @@ window p a k m below here above =
     ∙ ap₂ _++_
     (filter-from p (λ _. false) 0 a (λ j _ h. below j (omega arith)) ∙ filter-none (upTo a))
     (filter-from p (λ _. true) (0 + a) k (λ j g h. here j (omega arith) (omega arith)) ∙ filter-all (from (0 + a) k) ∙ ap (λ (n : ℕ). from n k) (zero-add a)))
-    (filter-from p (λ _. false) (a + k) m (λ j g h. above j g) ∙ filter-none (from (a + k) m))
+    (filter-from p (λ _. false) (a + k) m above ∙ filter-none (from (a + k) m))
     ∙ append-nil (from a k)

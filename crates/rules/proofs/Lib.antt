@@ -6,4 +6,5 @@ pub mod Built
 pub mod JoinSpans
 pub mod JoinTiles
 pub mod JoinBoxes
+pub mod JoinCode
 pub mod Starred
