@@ -10,3 +10,4 @@ pub mod Blocks
 pub mod Machine
 pub mod Pairs
 pub mod Rows
+pub mod Lengths

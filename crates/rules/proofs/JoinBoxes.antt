@@ -53,7 +53,8 @@ far-in r a b s v e f h = lt-leb _ _ (le-trans (leb-false _ _ h) (square-in a b s
 abbrev pub allIn : Grid → List ℕ → Rect → List ℕ → Bool
 allIn g reg b l = all (λ i. inBox b (rectangle g reg i)) l
 
-in-all : (p : ℕ → Bool) {x : ℕ} (l : List ℕ) → all p l ≡ true → List·Memᴰ x l → p x ≡ true
+-- what all of a list pass, each of them passes
+pub in-all : (p : ℕ → Bool) {x : ℕ} (l : List ℕ) → all p l ≡ true → List·Memᴰ x l → p x ≡ true
 in-all p (y ∷ l) e (List·Memᴰ·head f) = ap p f ∙ fst-true (p y) (all p l) e
 in-all p (y ∷ l) e (List·Memᴰ·tail m) = in-all p l (snd-true (p y) (all p l) e) m
 

@@ -7,4 +7,5 @@ pub mod JoinSpans
 pub mod JoinTiles
 pub mod JoinBoxes
 pub mod JoinCode
+pub mod JoinCount
 pub mod Starred
