@@ -15,3 +15,5 @@ pub mod Totals
 pub mod Lines
 pub mod Pairs
 pub mod Computed
+pub mod Rows
+pub mod Lengths

@@ -8,6 +8,9 @@ pub mod Papers
 pub mod Unique
 pub mod JoinSpans
 pub mod JoinTiles
+pub mod JoinBoxes
+pub mod JoinCode
+pub mod JoinCount
 pub mod Starred
 pub mod Order
 pub mod Memory
