@@ -1,0 +1,4 @@
+pub mod Storing
+pub mod Merging
+pub mod Placing
+pub mod Moving
