@@ -18,3 +18,4 @@ pub mod Encoding
 pub mod Burden
 pub mod Steps
 pub mod GroupLines
+pub mod InRange
