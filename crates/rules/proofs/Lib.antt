@@ -19,3 +19,4 @@ pub mod Burden
 pub mod Steps
 pub mod GroupLines
 pub mod InRange
+pub mod Weights
