@@ -7,3 +7,6 @@ pub mod Apart
 pub mod Counting
 pub mod Places
 pub mod Machine
+pub mod Ordered
+pub mod Forest
+pub mod Gather
