@@ -1,1 +1,4 @@
 pub mod Starred
+pub mod Ring
+pub mod Keys
+pub mod Items
