@@ -6,3 +6,4 @@ pub mod Starred
 pub mod Ring
 pub mod Keys
 pub mod Items
+pub mod Rings
