@@ -1,10 +1,10 @@
 -- The groups, tiles and footprints around a point: which there are, their places in the order of a walk, what opens each, what each opens.
 -- Assumes nothing.
-use mathlib.Core.Path.{_≡_, refl, sym, ap, _∙_}
+use mathlib.Core.Path.{_≡_, sym, _∙_}
 use mathlib.Core.Bool.{true, cond}
 use mathlib.Core.Option.{Option, none, some}
 use mathlib.Core.List.{List, [], map}
-use Prim.Native.Nat.{ℕ, zero, suc, _+_, _*_, _≤_, _<_}
+use Prim.Native.Nat.{ℕ, zero, suc, _<_}
 use native.Mathlib.Nat.{le-trans, mul-le-mul, div-add-mod'}
 use native.Mathlib.Omega.{arith}
 use lib.Dec.{eqb}
@@ -14,14 +14,14 @@ use Rattle.rules.specs.Classes.{reportTile}
 use Rattle.rules.specs.Register.{count, rectangle}
 use Rattle.rules.specs.Tables.{builtRun}
 use Rattle.rules.specs.Search.{allowedRuns}
-use Rattle.rules.specs.Front.{encodedItem, encoded}
+use Rattle.rules.specs.Front.{encoded}
 use Rattle.rules.specs.Walk.{groupExists, groupBrings, squareOf, waitingRow}
 use Rattle.rules.specs.declared.Grid.{Grid}
 use Rattle.rules.specs.declared.Point.{Point}
 use Rattle.rules.specs.declared.Direction.{Direction}
 use Rattle.rules.specs.declared.Item.{Item}
 use Rattle.rules.specs.declared.Item.the-variants.{Group, Tile, Footprint}
-use Rattle.rules.proofs.Good.{GoodSizes, good-sizes, GoodRect, Accepted, few-footprints, good-footprint, OnGrid, on-grid}
+use Rattle.rules.proofs.Good.{GoodSizes, good-sizes, GoodRect, Accepted, few-footprints, good-footprint, OnGrid}
 use Rattle.rules.proofs.Report.{column-inside, column-again, row-again}
 use Rattle.rules.proofs.Keys.{Small, keyRow}
 use Rattle.rules.proofs.Items.{InRange, small-item, one-item}

@@ -10,3 +10,4 @@ pub mod Machine
 pub mod Ordered
 pub mod Forest
 pub mod Gather
+pub mod Filters

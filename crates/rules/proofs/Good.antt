@@ -95,7 +95,7 @@ module _ (g : Grid) (reg : List ℕ) (ok : Accepted g reg) where
       nothing : badFootprint g reg i ≡ true → ⊥
       nothing e =
           let m : List·Memᴰ i (filter (badFootprint g reg) (upTo (count reg))) =
-              filter-mem (badFootprint g reg) (upTo (count reg)) (from-mem 0 (count reg) i zero-le (omega arith)) e in
+          filter-mem (badFootprint g reg) (upTo (count reg)) (from-mem 0 (count reg) i zero-le (omega arith)) e in
           List·Memᴰ·not-nil (rw (ok .none-bad) at m)
 
   pub good-footprint : (i : ℕ) → i < count reg → GoodRect g (rectangle g reg i)

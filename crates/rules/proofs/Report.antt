@@ -98,8 +98,10 @@ module _ (g : Grid) (pos : 0 < g .side) where
     unfolding square tileRect reportTile point column
     report-near =
         let lt : drawn (g .side) (column g (q .x)) (a .x) < g .n = drawn-inside (column g (q .x)) (a .x) (ok .in-x) in
-        rw (column-again (drawn (g .side) (column g (q .y)) (a .y)) (drawn (g .side) (column g (q .x)) (a .x)) lt,
-        row-again (drawn (g .side) (column g (q .y)) (a .y)) (drawn (g .side) (column g (q .x)) (a .x)) lt)
+        rw (
+          column-again (drawn (g .side) (column g (q .y)) (a .y)) (drawn (g .side) (column g (q .x)) (a .x)) lt,
+          row-again (drawn (g .side) (column g (q .y)) (a .y)) (drawn (g .side) (column g (q .x)) (a .x)) lt,
+        )
         (add-le-add (square-rises (gap-drawn pos (q .x) (a .x) (ok .in-x .ordered))) (square-rises (gap-drawn pos (q .y) (a .y) (ok .in-y .ordered))))
 
     -- the tile of its reporting run is its reporting tile
@@ -145,6 +147,6 @@ module _ (g : Grid) (pos : 0 < g .side) where
             let f : t ≡ RT = ap (λ (n : ℕ). n / 16) e ∙ report-run-tile in
             let m : k % 16 ≡ classOf g RT a = ap (λ (n : ℕ). n % 16) e ∙ report-run-class in
             let v : (shares (tileRect g RT) a && allowedIn g q RT (classOf g RT a)) ≡ true =
-                given-by-one-tile RT ∙ eq-eqb RT RT refl in
+            given-by-one-tile RT ∙ eq-eqb RT RT refl in
             rw (f, m, fst-true (shares (tileRect g RT) a) _ v, eq-eqb (classOf g RT a) (classOf g RT a) refl)
             (snd-true (shares (tileRect g RT) a) (allowedIn g q RT (classOf g RT a)) v)
