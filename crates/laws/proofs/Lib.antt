@@ -6,6 +6,7 @@ pub mod Members
 pub mod Apart
 pub mod Counting
 pub mod Places
+pub mod Blocks
 pub mod Machine
 pub mod Ordered
 pub mod Forest

@@ -77,6 +77,10 @@ pub each-on : {A B : Type 0} (f h : B → List A) (l : List B) → ((x : B) → 
 each-on f h [] e = refl
 each-on f h (x ∷ l) e = ap₂ _++_ (e x (List·Memᴰ·head refl)) (each-on f h l (λ y m. e y (List·Memᴰ·tail m)))
 
+pub each-nothing : {A B : Type 0} (l : List B) → each {B = A} (λ (x : B). []) l ≡ []
+each-nothing [] = refl
+each-nothing (x ∷ l) = each-nothing l
+
 pub all-on : {A : Type 0} (p : A → Bool) (l : List A) → ((x : A) → List·Memᴰ x l → p x ≡ true) → all p l ≡ true
 all-on p [] h = refl
 all-on p (x ∷ l) h = rw (h x (List·Memᴰ·head refl)) (all-on p l (λ y m. h y (List·Memᴰ·tail m)))

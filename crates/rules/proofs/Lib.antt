@@ -2,6 +2,10 @@ pub mod Good
 pub mod Spans
 pub mod Classes
 pub mod Report
+pub mod Built
+pub mod Visits
+pub mod Papers
+pub mod Unique
 pub mod Starred
 pub mod Ring
 pub mod Keys
