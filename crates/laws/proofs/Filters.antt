@@ -1,8 +1,8 @@
 -- Filters that keep all, none or what a map makes; the first of a filtered list; tests that some element passes. Assumes nothing.
-use mathlib.Core.Path.{_≡_, refl, ap, ap₂, _∙_}
-use mathlib.Core.Bool.{Bool, true, false}
+use mathlib.Core.Path.{_≡_, refl, ap}
+use mathlib.Core.Bool.{Bool, true}
 use mathlib.Core.List.{List, [], _∷_, List·Memᴰ, List·Memᴰ·head, List·Memᴰ·tail}
-use Rattle.laws.specs.Lists.{keep, filter}
+use Rattle.laws.specs.Lists.{filter}
 
 module _ {A : Type 0} where
   pub filter-all : (p : A → Bool) (l : List A) → ((z : A) → List·Memᴰ z l → p z ≡ true) → filter p l ≡ l

@@ -2,7 +2,7 @@
 -- At each moment the rows that wait, in order, are those above the last key taken whose parent is taken. Assumes nothing.
 use mathlib.Core.Path.{_≡_, refl, sym, ap, _∙_}
 use mathlib.Core.Logic.{_⊎_, inl, inr}
-use mathlib.Core.Bool.{Bool, true, _||_, or-true}
+use mathlib.Core.Bool.{Bool, true, false, _||_, or-true}
 use mathlib.Core.Option.{Option, none, some}
 use mathlib.Core.List.{List, [], _∷_, List·Memᴰ, List·Memᴰ·head, List·Memᴰ·tail, List·Memᴰ·cases-cons}
 use Prim.Native.Nat.{ℕ, _≤_, _<_, zero-le}
@@ -12,7 +12,7 @@ use lib.Dec.{leb, eqb}
 use borrow.Author.Tests.{le-leb, lt-leb, eq-eqb, ne-eqb, eqb-true}
 use Rattle.laws.specs.Lists.{filter}
 use Rattle.laws.proofs.Tests.{by-le, iff}
-use Rattle.laws.proofs.Lists.{filter-same}
+use Rattle.laws.proofs.Lists.{filter-none, filter-same}
 use Rattle.laws.proofs.Apart.{has, has-mem, mem-has, Apart}
 use Rattle.laws.proofs.Ordered.{Above, above-mem, insAll, Fresh, insAll-filter}
 
@@ -171,3 +171,28 @@ module _ {A : Type 0} (key : A → ℕ) (Valid : A → Type 0) (parent : A → O
 
     pub walk-next : insAll key (brings x) (front key par brings c l) ≡ front key par brings (key x) l
     walk-next = front-next key par brings c x l (R .up) closed children
+
+  -- items named by what is true of them: put in one by one they are the rows of the rest of which it is true
+  module _ (F : Forest) (c : ℕ) (l : List A) (R : Rest c l) (items : List A) (p : A → Bool) (apart : Apart key items)
+      (named : (z : A) → List·Memᴰ z items → Valid z × (c < key z) × (p z ≡ true))
+      (all-named : (z : A) → Valid z → c < key z → p z ≡ true → List·Memᴰ z items) where
+    all-fresh : (new : List A) → ((z : A) → List·Memᴰ z new → List·Memᴰ z items) → Apart key new → Fresh key (λ z. false) l new
+    all-fresh [] sub d = tt
+    all-fresh (y ∷ new) sub d =
+        let b : Valid y × (c < key y) × (p y ≡ true) = named y (sub y (List·Memᴰ·head refl)) in
+        (R .complete y (b .0) (b .1), refl, d .0, all-fresh new (λ z m. sub z (List·Memᴰ·tail m)) (d .1))
+
+    has-named : (z : A) → List·Memᴰ z l → has key z items ≡ p z
+    has-named z m = iff _ _ there (λ e. has-mem key z items (all-named z (R .sound z m) (above-mem key l (R .up) m) e))
+      where
+        there : has key z items ≡ true → p z ≡ true
+        there e =
+            let r : (y : A) × List·Memᴰ y items × (key z ≡ key y) = mem-has key z items e in
+            let b : Valid (r .0) × (c < key (r .0)) × (p (r .0) ≡ true) = named (r .0) (r .1) in
+            ap p (F .one-key z (r .0) (R .sound z m) (b .0) (r .2)) ∙ b .2
+
+    pub named-in-order : insAll key items [] ≡ filter p l
+    named-in-order =
+        ap (insAll key items) (sym (filter-none l))
+        ∙ insAll-filter key (λ z. false) c l items (R .up) (all-fresh items (λ z m. m) apart)
+        ∙ filter-same _ _ l has-named
