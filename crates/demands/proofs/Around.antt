@@ -24,7 +24,8 @@ use Rattle.rules.specs.declared.Item.the-variants.{Group, Tile, Footprint}
 use Rattle.rules.proofs.Good.{GoodSizes, good-sizes, GoodRect, Accepted, few-footprints, good-footprint, OnGrid}
 use Rattle.rules.proofs.Report.{column-inside, column-again, row-again}
 use Rattle.rules.proofs.Keys.{Small, keyRow}
-use Rattle.rules.proofs.Items.{InRange, small-item, one-item}
+use Rattle.rules.proofs.Encoding.{InRange}
+use Rattle.rules.proofs.Items.{small-item, one-item}
 use Rattle.rules.proofs.Ring.{dirOf, levIn, exists-lt}
 
 module _ (g : Grid) (reg : List ℕ) (q : Point) where

@@ -12,3 +12,7 @@ pub mod Ordered
 pub mod Forest
 pub mod Gather
 pub mod Filters
+pub mod Lexicographic
+pub mod Choices
+pub mod Totals
+pub mod Lines

@@ -1,58 +1,21 @@
--- Groups, tiles and footprints as waiting rows: each is read back, each has a place of its own in the order, and places rise
+-- Groups, tiles and footprints as waiting rows: each has a place of its own in the order, and places rise
 -- from a group to its tiles and its next group, from a tile to its footprints. Assumes nothing.
-use mathlib.Core.Path.{_≡_, refl, sym, ap, ap₂, _∙_}
+use mathlib.Core.Path.{_≡_, sym, ap, ap₂, _∙_}
 use mathlib.Core.Logic.{_↔_}
 use Prim.Native.Nat.{ℕ, _+_, _*_, _/_, _≤_, _<_}
 use native.Mathlib.Omega.{arith}
-use lib.Arith.{digits-div, digits-mod}
-use borrow.Author.Tests.{lt-ltb}
-use Rattle.rules.specs.Sizes.{mostTiles, mostFootprints}
-use Rattle.rules.specs.Front.{row, directionNo, direction, encodedItem, decoded}
+use lib.Arith.{digits-div}
+use Rattle.rules.specs.Front.{directionNo, direction, encodedItem}
 use Rattle.rules.specs.declared.Direction.{Direction}
-use Rattle.rules.specs.declared.Direction.the-variants.{Up, Right, Down, Left}
 use Rattle.rules.specs.declared.Item.{Item}
 use Rattle.rules.specs.declared.Item.the-variants.{Group, Tile, Footprint}
-use Rattle.rules.specs.declared.Read.the-variants.{Known}
+use Rattle.rules.proofs.Encoding.{direction-back, directionNo-below, InRange}
 use Rattle.rules.proofs.Keys.{Small, keyRow, key-number, key-kind, key-rises, key-rises-number, key-passed}
 
--- ---- directions
-
-pub direction-back : (d : Direction) → direction (directionNo d) ≡ d
-direction-back Up = refl
-direction-back Right = refl
-direction-back Down = refl
-direction-back Left = refl
-
-pub direction-lt : (d : Direction) → directionNo d < 4
-direction-lt Up = omega arith
-direction-lt Right = omega arith
-direction-lt Down = omega arith
-direction-lt Left = omega arith
-
--- ---- items that some grid and register can have
-
-abbrev pub InRange : Item → Type 0
-InRange (Group d l) = l < mostTiles
-InRange (Tile t) = t < mostTiles * mostTiles
-InRange (Footprint i) = i < mostFootprints
-
 pub small-item : (s : ℕ) (z : Item) → InRange z → Small (encodedItem s z)
-small-item s (Group d l) h = record { kind-lt = omega arith; number-lt = omega (arith, direction-lt d) }
+small-item s (Group d l) h = record { kind-lt = omega arith; number-lt = omega (arith, directionNo-below d) }
 small-item s (Tile t) h = record { kind-lt = omega arith; number-lt = omega arith }
 small-item s (Footprint i) h = record { kind-lt = omega arith; number-lt = h }
-
--- what is written is read back
-pub read-back : (s : ℕ) (z : Item) → InRange z → decoded (encodedItem s z) ≡ Known (row s z)
-unfolding decoded
-read-back s (Group d l) h =
-    rw (
-      lt-ltb (directionNo d * 64 + l) 256 (omega (arith, direction-lt d)),
-      digits-div (directionNo d) h,
-      digits-mod (directionNo d) h,
-      direction-back d,
-    )
-read-back s (Tile t) h = rw (lt-ltb t (mostTiles * mostTiles) h)
-read-back s (Footprint i) h = rw (lt-ltb i mostFootprints h)
 
 -- one place in the order, one item
 module _ (s t : ℕ) where

@@ -11,3 +11,9 @@ pub mod Ring
 pub mod Keys
 pub mod Items
 pub mod Rings
+pub mod Order
+pub mod Memory
+pub mod Encoding
+pub mod Burden
+pub mod Steps
+pub mod GroupLines
