@@ -146,7 +146,7 @@ module _ {g : Grid} {reg : List ℕ} {q : Point} (S : Around g reg q) where
 
   -- ---- the start: what nothing brings
 
-  root-of : (z : Item) → List·Memᴰ z (roots g reg q) → There z × (parent g reg q z ≡ none)
+  pub root-of : (z : Item) → List·Memᴰ z (roots g reg q) → There z × (parent g reg q z ≡ none)
   root-of z m = go (List·Memᴰ·append-cases (map Footprint (each (builtRun g reg) (allowedRuns g q (tileOf g q)))) m)
     where
       group : (d : Direction) × List·Memᴰ d directions × List·Memᴰ z (groupIf g q 1 d) → There z × (parent g reg q z ≡ none)

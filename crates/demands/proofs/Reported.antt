@@ -24,7 +24,7 @@ use Rattle.rules.specs.declared.Item.{Item}
 use Rattle.rules.specs.declared.Item.the-variants.{Footprint}
 use Rattle.rules.proofs.Classes.{class-below}
 use Rattle.rules.proofs.Report.{given-by-one-run, report-run-tile}
-use Rattle.demands.proofs.Around.{Around, key, Valid, tileFor, sizes, good, own-column, own-row, one-key}
+use Rattle.demands.proofs.Around.{Around, key, tileFor, sizes, good, own-column, own-row, one-key}
 
 -- every run of the point's own tile is allowed
 module _ {g : Grid} {reg : List ℕ} {q : Point} (S : Around g reg q) where
@@ -91,12 +91,10 @@ module _ {g : Grid} {reg : List ℕ} {q : Point} (S : Around g reg q) where
   reported-in i v = Memᴰ·map Footprint (each-mem (builtRun g reg) (allowedRuns g q (tileFor g reg q i)) (run-allowed i v) (in-run i v))
 
   -- no two of them are one
-  pub apart-footprints : (t : ℕ) → Apart (key g reg q) (map Footprint (each (builtRun g reg) (allowedRuns g q t)))
-  apart-footprints t =
-      apart-map (key g reg q) Footprint (each (builtRun g reg) (allowedRuns g q t))
-      (apart-each (builtRun g reg) (allowedRuns g q t) runs-apart run-apart
-      (λ k m i a b c d. in-allowed t k i a c .1 ∙ sym (in-allowed t m i b d .1)))
-      (λ a b ma mb e. same a b (one-key S (Footprint a) (Footprint b) (valid a ma) (valid b mb) e))
+  pub apart-numbers : (t : ℕ) → Apart self (each (builtRun g reg) (allowedRuns g q t))
+  apart-numbers t =
+      apart-each (builtRun g reg) (allowedRuns g q t) runs-apart run-apart
+      (λ k m i a b c d. in-allowed t k i a c .1 ∙ sym (in-allowed t m i b d .1))
     where
       runs-apart : Apart self (allowedRuns g q t)
       runs-apart = unfold allowedRuns tileRuns in apart-filter (allowedRun g q) (16 * t) 16
@@ -104,10 +102,15 @@ module _ {g : Grid} {reg : List ℕ} {q : Point} (S : Around g reg q) where
       run-apart : (k : ℕ) → Apart self (builtRun g reg k)
       run-apart k = unfold builtRun footprints in apart-filter (stands g reg k) 0 (count reg)
 
-      valid : (a : ℕ) → List·Memᴰ a (each (builtRun g reg) (allowedRuns g q t)) → Valid g reg q (Footprint a)
-      valid a m =
-          let k : (x : ℕ) × List·Memᴰ x (allowedRuns g q t) × List·Memᴰ a (builtRun g reg x) = mem-each (builtRun g reg) (allowedRuns g q t) m in
-          in-allowed t (k .0) a (k .1) (k .2) .0
+  pub number-lt : (t a : ℕ) → List·Memᴰ a (each (builtRun g reg) (allowedRuns g q t)) → a < count reg
+  number-lt t a m =
+      let k : (x : ℕ) × List·Memᴰ x (allowedRuns g q t) × List·Memᴰ a (builtRun g reg x) = mem-each (builtRun g reg) (allowedRuns g q t) m in
+      in-allowed t (k .0) a (k .1) (k .2) .0
 
+  pub apart-footprints : (t : ℕ) → Apart (key g reg q) (map Footprint (each (builtRun g reg) (allowedRuns g q t)))
+  apart-footprints t =
+      apart-map (key g reg q) Footprint (each (builtRun g reg) (allowedRuns g q t)) (apart-numbers t)
+      (λ a b ma mb e. same a b (one-key S (Footprint a) (Footprint b) (number-lt t a ma) (number-lt t b mb) e))
+    where
       same : (a b : ℕ) → Footprint a ≡ Footprint b → a ≡ b
       same a b e = cc

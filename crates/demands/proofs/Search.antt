@@ -1,24 +1,23 @@
 -- Demand 2 for the radius search: on tables as the build left them it lists each footprint within the radius exactly once and no other,
 -- ordered by reporting tile, class there and number; and it never meets damage. Assumes nothing.
-use mathlib.Core.Path.{_≡_, refl, sym, ap, ap₂, _∙_}
-use mathlib.Core.Bool.{Bool, true, false, cond, not, _&&_}
-use mathlib.Core.List.{List, [], _∷_, _++_}
-use Prim.Native.Nat.{ℕ, _+_, _/_, _%_, _≤_, _<_, zero-le}
+use mathlib.Core.Path.{_≡_, refl, sym, ap, _∙_}
+use mathlib.Core.Bool.{Bool, true, false, cond, _&&_}
+use mathlib.Core.List.{List, [], _∷_}
+use Prim.Native.Nat.{ℕ, _/_, _≤_, _<_, zero-le}
 use native.Mathlib.Nat.{zero-add}
 use native.Mathlib.Omega.{arith}
-use lib.Dec.{leb, ltb, eqb}
+use lib.Dec.{ltb, eqb}
 use lib.ListN.{length}
 use borrow.Author.Tests.{eqb-true, le-ltb, lt-ltb}
 use Rattle.laws.specs.Lists.{filter, upTo, each, only, times}
-use Rattle.laws.proofs.Tests.{by-le, iff, fst-true, snd-true, both-true}
+use Rattle.laws.proofs.Tests.{by-le}
 use Rattle.laws.proofs.Lists.{filter-each, each-filter, filter-filter, only-filter, each-nothing}
 use Rattle.laws.proofs.Ranges.{filter-from, each-from, pick, each-one}
 use Rattle.rules.specs.Sizes.{badPoint, mostRadius}
-use Rattle.rules.specs.Distance.{within, point, tileRect, shares}
-use Rattle.rules.specs.Classes.{classOf, reportTile}
+use Rattle.rules.specs.Distance.{within, point}
 use Rattle.rules.specs.Register.{count, footprints, rectangle}
-use Rattle.rules.specs.Tables.{Tables, runs, runAt, stands, builtRun, builtTables, badLengths, goodRuns}
-use Rattle.rules.specs.Refusals.{Paper, Verdict, pass, fit}
+use Rattle.rules.specs.Tables.{runs, runAt, stands, builtRun, builtTables}
+use Rattle.rules.specs.Refusals.{pass, fit}
 use Rattle.rules.specs.Search.{allowedRun, visits, readRuns, isHit, radiusHits, hitWrites, searchVerdict, searches, reportRun, reported, declaredHits}
 use Rattle.rules.specs.declared.Grid.{Grid}
 use Rattle.rules.specs.declared.Point.{Point}
