@@ -134,7 +134,7 @@ module _ {g : Grid} {reg : List ℕ} {q : Point} (S : Around g reg q) where
       let o = of-tile S t m in
       rw (sym (o .3)) ((o .1, rw (o .2, ne-eqb t (tileOf g q) (v .1))))
 
-  brought : (x z : Item) → There x → List·Memᴰ z (brings g reg q x) → There z × (P z ≡ some x)
+  pub brought : (x z : Item) → There x → List·Memᴰ z (brings g reg q x) → There z × (P z ≡ some x)
   brought (Group d l) z v m = from-group d l z v m
   brought (Tile t) z v m = from-tile t z v m
   brought (Footprint i) z v m = absurd (List·Memᴰ·not-nil m)
