@@ -173,27 +173,36 @@ module _ {g : Grid} {reg : List ℕ} {q : Point} (S : Around g reg q) where
       go true e = Memᴰ·append-left (each (groupIf g q 1) directions) (rw (eqb-true (tileFor g reg q i) (tileOf g q) e) at (reported-in S i v))
       go false e = tt
 
-  apart-level : (ds : List Direction) → Apart directionNo ds → Apart K (each (groupIf g q 1) ds)
-  apart-level [] a = tt
-  apart-level (d ∷ ds) a =
-      apart-append K (groupIf g q 1 d) (each (groupIf g q 1) ds) (apart-next S d 1) (apart-level ds (a .1))
-      (λ y z p r e. clash y z p e (mem-each (groupIf g q 1) ds r))
+  -- groups of each direction are apart where those of one are
+  pub apart-directions : (f : Direction → List Item) → ((d : Direction) → Apart K (f d))
+      → ((d : Direction) (z : Item) → List·Memᴰ z (f d) → (l : ℕ) × (z ≡ Group d l) × There z)
+      → (ds : List Direction) → Apart directionNo ds → Apart K (each f ds)
+  apart-directions f one groups [] a = tt
+  apart-directions f one groups (d ∷ ds) a =
+      apart-append K (f d) (each f ds) (one d) (apart-directions f one groups ds (a .1)) (λ y z p r e. clash y z p e (mem-each f ds r))
     where
-      same : (d e : Direction) → Group d 1 ≡ Group e 1 → d ≡ e
-      same d e p = cc
+      same : (d e : Direction) (k l : ℕ) → Group d k ≡ Group e l → d ≡ e
+      same d e k l p = cc
 
-      clash : (y z : Item) → List·Memᴰ y (groupIf g q 1 d) → K y ≡ K z → (e : Direction) × List·Memᴰ e ds × List·Memᴰ z (groupIf g q 1 e) → ⊥
+      clash : (y z : Item) → List·Memᴰ y (f d) → K y ≡ K z → (e : Direction) × List·Memᴰ e ds × List·Memᴰ z (f e) → ⊥
       clash y z p k r =
-          let u = next-group S d 1 p in
-          let w = next-group S (r .0) 1 (r .2) in
-          let f : d ≡ r .0 =
-          same d (r .0) (sym (u .0) ∙ one-key S y z (rw (u .0) ((omega arith, u .1))) (rw (w .0) ((omega arith, w .1))) k ∙ w .0) in
-          has-not directionNo d ds (a .0) (Memᴰ·cast f (r .1))
+          let u = groups d y p in
+          let w = groups (r .0) z (r .2) in
+          let same-direction : d ≡ r .0 = same d (r .0) (u .0) (w .0) (sym (u .1) ∙ one-key S y z (u .2) (w .2) k ∙ w .1) in
+          has-not directionNo d ds (a .0) (Memᴰ·cast same-direction (r .1))
+
+  pub four-directions : Apart directionNo directions
+  four-directions = (refl, (refl, (refl, (refl, tt))))
+
+  apart-level : Apart K (each (groupIf g q 1) directions)
+  apart-level =
+      apart-directions (groupIf g q 1) (λ d. apart-next S d 1)
+      (λ d z m. let u = next-group S d 1 m in (1, u .0, rw (u .0) ((omega arith, u .1)))) directions four-directions
 
   apart-roots : Apart K (roots g reg q)
   apart-roots =
       apart-append K (map Footprint (each (builtRun g reg) (allowedRuns g q (tileOf g q)))) (each (groupIf g q 1) directions)
-      (apart-footprints S (tileOf g q)) (apart-level directions (refl, (refl, (refl, (refl, tt)))))
+      (apart-footprints S (tileOf g q)) apart-level
       (λ y z p r e. clash y z (of-tile S (tileOf g q) p) (mem-each (groupIf g q 1) directions r)
       (one-key S y z (root-of y (Memᴰ·append-left (each (groupIf g q 1) directions) p) .0)
       (root-of z (Memᴰ·append-right (map Footprint (each (builtRun g reg) (allowedRuns g q (tileOf g q)))) r) .0) e))

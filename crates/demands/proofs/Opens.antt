@@ -63,7 +63,7 @@ module _ {g : Grid} {reg : List ℕ} {q : Point} (S : Around g reg q) where
       rw (b .0, b .1)
 
   -- the point's own is in none
-  not-own : (d : Direction) (l t : ℕ) → 0 < l → tileInGroup g q d l t ≡ true → t ≡ tileOf g q → ⊥
+  pub not-own : (d : Direction) (l t : ℕ) → 0 < l → tileInGroup g q d l t ≡ true → t ≡ tileOf g q → ⊥
   unfolding tileInGroup
   not-own d l t h e f = not-centre (column g (q .x)) (column g (q .y)) d l (columnOf g t) (rowOf g t) h e (own-column S t f) (own-row S t f)
 
