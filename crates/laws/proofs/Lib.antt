@@ -16,3 +16,4 @@ pub mod Lexicographic
 pub mod Choices
 pub mod Totals
 pub mod Lines
+pub mod Maps
