@@ -1,7 +1,7 @@
 -- The groups, tiles and footprints around a point: which there are, their places in the order of a walk, what opens each, what each opens.
 -- Assumes nothing.
 use mathlib.Core.Path.{_≡_, sym, _∙_}
-use mathlib.Core.Bool.{true, cond}
+use mathlib.Core.Bool.{true, false, cond}
 use mathlib.Core.Option.{Option, none, some}
 use mathlib.Core.List.{List, [], map}
 use Prim.Native.Nat.{ℕ, zero, suc, _<_}
@@ -9,7 +9,7 @@ use native.Mathlib.Nat.{le-trans, mul-le-mul, div-add-mod'}
 use native.Mathlib.Omega.{arith}
 use lib.Dec.{eqb}
 use Rattle.laws.specs.Lists.{each}
-use Rattle.rules.specs.Sizes.{column, rowOf, columnOf, tileNo, tileCount, tileOf}
+use Rattle.rules.specs.Sizes.{badPoint, column, rowOf, columnOf, tileNo, tileCount, tileOf}
 use Rattle.rules.specs.Classes.{reportTile}
 use Rattle.rules.specs.Register.{count, rectangle}
 use Rattle.rules.specs.Tables.{builtRun}
@@ -21,7 +21,7 @@ use Rattle.rules.specs.declared.Point.{Point}
 use Rattle.rules.specs.declared.Direction.{Direction}
 use Rattle.rules.specs.declared.Item.{Item}
 use Rattle.rules.specs.declared.Item.the-variants.{Group, Tile, Footprint}
-use Rattle.rules.proofs.Good.{GoodSizes, good-sizes, GoodRect, Accepted, few-footprints, good-footprint, OnGrid}
+use Rattle.rules.proofs.Good.{GoodSizes, good-sizes, GoodRect, Accepted, few-footprints, good-footprint, OnGrid, on-grid}
 use Rattle.rules.proofs.Report.{column-inside, column-again, row-again}
 use Rattle.rules.proofs.Keys.{Small, keyRow}
 use Rattle.rules.proofs.Encoding.{InRange}
@@ -71,6 +71,9 @@ module _ (g : Grid) (reg : List ℕ) (q : Point) where
   brings (Group d l) = groupBrings g q d l
   brings (Tile t) = map Footprint (each (builtRun g reg) (allowedRuns g q t))
   brings (Footprint i) = []
+
+pub around : {g : Grid} {reg : List ℕ} {q : Point} → Accepted g reg → badPoint g q ≡ false → Around g reg q
+around {g} {reg} {q} a on = record { accepted = a; on = on-grid g q on }
 
 module _ {g : Grid} {reg : List ℕ} {q : Point} (S : Around g reg q) where
   pub sizes : GoodSizes g

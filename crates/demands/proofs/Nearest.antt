@@ -37,12 +37,12 @@ use Rattle.demands.proofs.Taking.{footprintsIn, leftAfter, placeAfter, 
 use Rattle.demands.proofs.Machine.{rowsOf, written}
 use Rattle.demands.proofs.FrontAfter.{front-after}
 
-abbrev isFootprint : Item → Bool
+abbrev pub isFootprint : Item → Bool
 isFootprint (Group d l) = false
 isFootprint (Tile t) = false
 isFootprint (Footprint i) = true
 
-only-footprints : (l : List Item) → filter isFootprint l ≡ map Footprint (footprintsIn l)
+pub only-footprints : (l : List Item) → filter isFootprint l ≡ map Footprint (footprintsIn l)
 only-footprints [] = refl
 only-footprints (Group d k ∷ l) = only-footprints l
 only-footprints (Tile t ∷ l) = only-footprints l

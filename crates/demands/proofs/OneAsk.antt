@@ -2,20 +2,21 @@
 use mathlib.Core.Path.{_≡_, ap, _∙_}
 use mathlib.Core.Bool.{false}
 use mathlib.Core.List.{List, []}
-use Prim.Native.Nat.{ℕ, _+_, _-_, _*_, _≤_}
+use Prim.Native.Nat.{ℕ, _+_, _-_, _*_, _≤_, _<_}
 use native.Mathlib.Nat.{le-trans}
 use native.Mathlib.Omega.{arith}
 use lib.ListN.{length, take, drop, length-map, length-take}
-use borrow.Author.Tests.{le-ltb}
+use borrow.Author.Tests.{lt-ltb, le-ltb}
 use Rattle.laws.specs.Lists.{each, over}
 use Rattle.rules.specs.Sizes.{tileCount}
 use Rattle.rules.specs.Register.{count}
 use Rattle.rules.specs.Tables.{Tables, builtTables}
-use Rattle.rules.specs.Refusals.{paperAnswer, pass}
+use Rattle.rules.specs.Refusals.{paper, paperAnswer, pass}
 use Rattle.rules.specs.Front.{laid}
 use Rattle.rules.specs.Walk.{waitingRow, startRoom, rowNumbers, machine, finish, walkAt, askVerdict, wholeRows, badWalk, askMachine, askOutcome, asks}
 use Rattle.rules.specs.declared.Grid.{Grid}
 use Rattle.rules.specs.declared.Point.{Point}
+use Rattle.rules.specs.declared.Refusal.the-variants.{Room}
 use Rattle.rules.specs.declared.Answer.the-variants.{Done}
 use Rattle.rules.specs.declared.Three.{Three}
 use Rattle.rules.specs.declared.Walk.{Walk}
@@ -87,3 +88,9 @@ module _ {g : Grid} {reg : List ℕ} {q : Point} (S : Around g reg q) (tail : Li
         ≡ (paperAnswer (Done (length (nextOf k j))), stateAt (k + j), frontAt (k + j), over (each (written g reg q) (nextOf k j)) out)
     unfolding asks askOutcome
     one-ask = rw (passes, ends, given-count, front-length k)
+
+  -- an ask that lends too little room is refused for it, and changes nothing
+  pub lacks-room : (k j : ℕ) (out : List ℕ) → length out < rowNumbers * j
+      → asks g T (frontAt k) (stateAt k) j out ≡ (paper (Room (rowNumbers * j)), stateAt k, frontAt k, out)
+  unfolding asks askVerdict
+  lacks-room k j out h = rw (S .accepted .sizes, good-lengths g reg (S .accepted) tail, point-on S tail, lt-ltb (length out) (rowNumbers * j) h)

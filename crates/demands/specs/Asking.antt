@@ -1,11 +1,11 @@
 -- A walk as its caller makes it, a start and then asks one after the other, and what document 01 says of it on built tables.
 -- Assumes nothing.
-use mathlib.Core.Bool.{Bool, true, false, _||_}
+use mathlib.Core.Bool.{Bool, true, false, _&&_, _||_}
 use mathlib.Core.List.{List, [], _∷_, _++_, map}
 use Prim.Native.Nat.{ℕ, _*_}
-use lib.Dec.{ltb}
+use lib.Dec.{ltb, eqb}
 use lib.ListN.{length, take, drop, getD}
-use Rattle.laws.specs.Lists.{each, over}
+use Rattle.laws.specs.Lists.{each, over, total}
 use Rattle.rules.specs.Tables.{Tables}
 use Rattle.rules.specs.Refusals.{Paper, paperAnswer}
 use Rattle.rules.specs.Front.{laid}
@@ -49,6 +49,14 @@ walks g t q front l =
 unfoldable pub numbersGiven : Asked → List ℕ
 numbersGiven r = take (rowNumbers * getD (r .0 .values) 0 0) (r .3)
 
+-- an ask met damage
+unfoldable pub metDamage : Asked → Bool
+metDamage r = eqb (r .0 .number) 7
+
+-- the rows wanted in all
+unfoldable pub wantedInAll : List Ask → ℕ
+wantedInAll l = total (λ a. a .wanted) l
+
 -- ---- what is promised of it
 
 -- the numbers of rows that are given, one row behind the other
@@ -77,3 +85,14 @@ promised g t q size given short (a ∷ more) =
     let waiting = waitingNow g t q (given ++ new) ended in
     (paperAnswer (Done (length new)), walkAt q (length waiting) false, laid size waiting, over (rowsWritten g (t .reg) q new) (a .output))
     ∷ promised g t q size (given ++ new) ended more
+
+-- ---- all footprints by square, then number
+
+unfoldable pub nearer : Three → Three → Bool
+nearer a b = ltb (a .square) (b .square) || eqb (a .square) (b .square) && ltb (a .number) (b .number)
+
+-- each row is nearer than the next
+unfoldable pub ascends : List Three → Bool
+ascends [] = true
+ascends (a ∷ []) = true
+ascends (a ∷ b ∷ l) = nearer a b && ascends (b ∷ l)

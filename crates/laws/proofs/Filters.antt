@@ -1,15 +1,16 @@
--- Filters that keep all; the first number of a range that passes a test; tests that some element passes. Assumes nothing.
+-- Filters that keep all or one; the first number of a range that passes a test; tests that some element passes. Assumes nothing.
 use mathlib.Core.Path.{_≡_, refl, sym, ap, _∙_}
 use mathlib.Core.Bool.{Bool, true, false, _||_, or-true}
-use mathlib.Core.List.{List, [], _∷_, List·Memᴰ, List·Memᴰ·head, List·Memᴰ·tail, List·Memᴰ·not-nil, List·Memᴰ·eq-of-singleton}
+use mathlib.Core.List.{List, [], _∷_, List·Memᴰ, List·Memᴰ·head, List·Memᴰ·tail, List·Memᴰ·not-nil, List·Memᴰ·eq-of-singleton, Memᴰ·cast}
 use Prim.Native.Nat.{ℕ, zero, suc, _+_, _≤_, _<_}
 use native.Mathlib.Nat.{lt-irrefl}
 use native.Mathlib.Omega.{arith}
 use lib.Dec.{eqb}
 use lib.ListN.{take}
-use borrow.Author.Tests.{eqb-true, eq-eqb}
-use Rattle.laws.specs.Lists.{keep, filter, from, any}
+use borrow.Author.Tests.{eqb-true, eq-eqb, ne-eqb}
+use Rattle.laws.specs.Lists.{keep, filter, from, any, times}
 use Rattle.laws.proofs.Tests.{by-le, clash}
+use Rattle.laws.proofs.Apart.{has-not, Apart, self}
 
 module _ {A : Type 0} where
   pub filter-all : (p : A → Bool) (l : List A) → ((z : A) → List·Memᴰ z l → p z ≡ true) → filter p l ≡ l
@@ -38,6 +39,15 @@ any-number i l e = let r = mem-any (eqb i) l e in same (r .1) (eqb-true i (r .0)
 
 pub number-any : (i : ℕ) (l : List ℕ) → List·Memᴰ i l → any (eqb i) l ≡ true
 number-any i l m = any-mem (eqb i) l m (eq-eqb i i refl)
+
+-- a number that stands in a list of which no two are equal stands there once
+pub times-one : (i : ℕ) (l : List ℕ) → Apart self l → List·Memᴰ i l → times i l ≡ 1
+times-one i (x ∷ l) a (List·Memᴰ·head e) = rw (eq-eqb i x e) (ap suc (none l (λ k m f. has-not self x l (a .0) (Memᴰ·cast (sym (f ∙ e)) m))))
+  where
+    none : (l : List ℕ) → ((k : ℕ) → List·Memᴰ k l → k ≡ i → ⊥) → times i l ≡ 0
+    none [] h = refl
+    none (y ∷ l) h = rw (ne-eqb i y (λ f. h y (List·Memᴰ·head refl) (sym f))) (none l (λ k m f. h k (List·Memᴰ·tail m) f))
+times-one i (x ∷ l) a (List·Memᴰ·tail m) = rw (ne-eqb i x (λ e. has-not self x l (a .0) (Memᴰ·cast (sym e) m))) (times-one i l (a .1) m)
 
 -- ---- the first number of a range that passes
 
