@@ -9,6 +9,10 @@ pub mod Places
 pub mod Blocks
 pub mod Same
 pub mod Machine
+pub mod Ordered
+pub mod Forest
+pub mod Gather
+pub mod Filters
 pub mod Lexicographic
 pub mod Choices
 pub mod Totals
@@ -17,3 +21,4 @@ pub mod Pairs
 pub mod Computed
 pub mod Rows
 pub mod Lengths
+pub mod Maps

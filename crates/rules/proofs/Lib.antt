@@ -12,6 +12,10 @@ pub mod JoinBoxes
 pub mod JoinCode
 pub mod JoinCount
 pub mod Starred
+pub mod Ring
+pub mod Keys
+pub mod Items
+pub mod Rings
 pub mod Order
 pub mod Memory
 pub mod Encoding
