@@ -7,6 +7,7 @@ pub mod Apart
 pub mod Counting
 pub mod Places
 pub mod Blocks
+pub mod Same
 pub mod Machine
 pub mod Ordered
 pub mod Forest
@@ -17,3 +18,7 @@ pub mod Choices
 pub mod Totals
 pub mod Lines
 pub mod Maps
+pub mod Pairs
+pub mod Computed
+pub mod Rows
+pub mod Lengths

@@ -1,28 +1,27 @@
 -- The tables as the build left them, any tail behind the entries: their runs are the built runs and show no damage. Assumes nothing.
-use mathlib.Core.Path.{_≡_, refl, sym, ap, ap₂, _∙_}
-use mathlib.Core.Bool.{Bool, true, false, not, _&&_, _||_}
-use mathlib.Core.List.{List, [], _∷_, _++_, List·Memᴰ}
+use mathlib.Core.Path.{_≡_, ap, _∙_}
+use mathlib.Core.Bool.{Bool, true, false, not}
+use mathlib.Core.List.{List, List·Memᴰ}
 use Prim.Native.Nat.{ℕ, zero, suc, _+_, _-_, _*_, _/_, _%_, _≤_, _<_, zero-le}
-use native.Mathlib.Nat.{le-trans, add-zero, zero-add, mul-le-mul, le-add-right, mul-suc}
+use native.Mathlib.Nat.{le-trans, zero-add, mul-le-mul, le-add-right, mul-suc}
 use native.Mathlib.Numerals.{add-one}
 use native.Mathlib.Omega.{arith}
-use lib.Dec.{leb, ltb, eqb}
 use lib.ListN.{length, getD, length-append}
 use borrow.Author.Tests.{eqb-true, le-ltb, eq-eqb}
-use Rattle.laws.specs.Lists.{filter, from, upTo, each, all, part, places}
-use Rattle.laws.proofs.Tests.{snd-true, neither}
+use Rattle.laws.specs.Lists.{filter, from, upTo, each}
+use Rattle.laws.proofs.Tests.{snd-true}
 use Rattle.laws.proofs.Lists.{each-append, filter-append, all-on}
 use Rattle.laws.proofs.Ranges.{from-append, each-snoc, mem-from, length-from}
 use Rattle.laws.proofs.Members.{mem-filter}
 use Rattle.laws.proofs.Counting.{swap-count, length-each, at-most-one}
 use Rattle.laws.proofs.Places.{part-is, place-is, length-places}
-use Rattle.rules.specs.Sizes.{mostEntries, tileCount}
+use Rattle.rules.specs.Sizes.{tileCount}
 use Rattle.rules.specs.Distance.{shares, tileRect}
 use Rattle.rules.specs.Classes.{classOf}
-use Rattle.rules.specs.Register.{count, footprints, rectangle, badEntry, badRegister}
-use Rattle.rules.specs.Tables.{Tables, tables, runs, runStart, runEnd, runAt, badEnds, badStarts, badLengths, goodRun, goodRuns, stands, builtRun, builtEntries, builtStarts, builtTables}
+use Rattle.rules.specs.Register.{count, footprints, rectangle, badEntry}
+use Rattle.rules.specs.Tables.{runs, runStart, runEnd, runAt, badEnds, badStarts, badLengths, goodRun, goodRuns, stands, builtRun, builtEntries, builtStarts, builtTables}
 use Rattle.rules.specs.declared.Grid.{Grid}
-use Rattle.rules.proofs.Good.{GoodSizes, good-sizes, Accepted, few-footprints, may-be-named}
+use Rattle.rules.proofs.Good.{good-sizes, Accepted, few-footprints, may-be-named}
 
 module _ (g : Grid) (reg : List ℕ) where
   -- run k of the built tables is what the build put there

@@ -37,6 +37,24 @@ groupBurden g t l = cond (eqb l 0) 1 (1 + (mostTiles - l) * groupWeight g t)
 unfoldable pub burden : Grid → Tables → Three → ℕ
 burden g t a = cond (eqb (a .kind) 0) (groupBurden g t (a .number % 64)) (cond (eqb (a .kind) 1) (tileWeight t) 1)
 
+-- ---- moves and numbers
+
+pub no-damage {ℓ} : {X : Type ℓ} (new : List Three) → damage ≡ bring new → X
+no-damage new e = let z : _≡_ {A = ℕ} 0 1 = cc in absurd (not-suc-le-zero {n = 0} (omega arith))
+
+pub hands-out {ℓ} : {X : Type ℓ} (b : Bool) (l : List ℕ) (new : List Three) → damageIf b (hand l) ≡ bring new → X
+hands-out true l new e = no-damage new e
+hands-out false l new e = let z : _≡_ {A = ℕ} 0 1 = cc in absurd (not-suc-le-zero {n = 0} (omega arith))
+
+pub same-new : (b : Bool) (x new : List Three) → damageIf b (bring x) ≡ bring new → (b ≡ false) × (x ≡ new)
+same-new true x new e = no-damage new e
+same-new false x new e = (refl, cc)
+
+pub group-number : (d : Direction) (l : ℕ) → l < 64 → (directionNo d * 64 + l) % 64 ≡ l
+group-number d l h = omega arith
+
+-- ---- on a grid, with tables
+
 module _ (g : Grid) (t : Tables) where
   group-positive : (l : ℕ) → 0 < groupBurden g t l
   unfolding groupBurden
@@ -70,6 +88,14 @@ module _ (g : Grid) (t : Tables) where
       go true q true = omega arith
       go true q false = omega arith
       go false q r = omega arith
+
+  level-zero : groupBurden g t 0 ≡ 1
+  unfolding groupBurden
+  level-zero = refl
+
+  pub from-level : (l : ℕ) → 0 < l → groupBurden g t l ≡ 1 + (mostTiles - l) * groupWeight g t
+  unfolding groupBurden
+  from-level l h = rw (ne-eqb l 0 (λ e. omega arith))
 
   module _ (q : Point) where
     -- of an item as it comes to wait
@@ -113,20 +139,9 @@ module _ (g : Grid) (t : Tables) where
 
     -- ---- a group
 
-    group-number : (d : Direction) (l : ℕ) → l < 64 → (directionNo d * 64 + l) % 64 ≡ l
-    group-number d l h = omega arith
-
     group-burden : (d : Direction) (l : ℕ) → itemBurden (Group d l) ≡ groupBurden g t ((directionNo d * 64 + l) % 64)
     unfolding burden waitingRow encoded
     group-burden d l = refl
-
-    level-zero : groupBurden g t 0 ≡ 1
-    unfolding groupBurden
-    level-zero = refl
-
-    from-level : (l : ℕ) → 0 < l → groupBurden g t l ≡ 1 + (mostTiles - l) * groupWeight g t
-    unfolding groupBurden
-    from-level l h = rw (ne-eqb l 0 (λ e. omega arith))
 
     next-burden : (d : Direction) (l : ℕ) → l < 64 → groupBurden g t ((directionNo d * 64 + (l + 1)) % 64) ≤ 1 + (mostTiles - (l + 1)) * groupWeight g t
     next-burden d l h =
@@ -177,17 +192,6 @@ module _ (g : Grid) (t : Tables) where
         omega arith
 
     -- ---- any row
-
-    no-damage {ℓ} : {X : Type ℓ} (new : List Three) → damage ≡ bring new → X
-    no-damage new e = let z : _≡_ {A = ℕ} 0 1 = cc in absurd (not-suc-le-zero {n = 0} (omega arith))
-
-    hands-out {ℓ} : {X : Type ℓ} (b : Bool) (l : List ℕ) (new : List Three) → damageIf b (hand l) ≡ bring new → X
-    hands-out true l new e = no-damage new e
-    hands-out false l new e = let z : _≡_ {A = ℕ} 0 1 = cc in absurd (not-suc-le-zero {n = 0} (omega arith))
-
-    same-new : (b : Bool) (x new : List Three) → damageIf b (bring x) ≡ bring new → (b ≡ false) × (x ≡ new)
-    same-new true x new e = no-damage new e
-    same-new false x new e = (refl, cc)
 
     item-lighter : (s : ℕ) (i : Item) (new : List Three) → InRange i → itemMove g t q s i ≡ bring new → total (burden g t) new < burden g t (encoded (row s i))
     unfolding itemMove burden encoded

@@ -6,6 +6,11 @@ pub mod Built
 pub mod Visits
 pub mod Papers
 pub mod Unique
+pub mod JoinSpans
+pub mod JoinTiles
+pub mod JoinBoxes
+pub mod JoinCode
+pub mod JoinCount
 pub mod Starred
 pub mod Ring
 pub mod Keys
@@ -17,3 +22,5 @@ pub mod Encoding
 pub mod Burden
 pub mod Steps
 pub mod GroupLines
+pub mod InRange
+pub mod Weights

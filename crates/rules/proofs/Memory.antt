@@ -1,5 +1,5 @@
 -- The rows of a front's memory: counted, read, written, laid out. Assumes nothing.
-use mathlib.Core.Path.{_≡_, refl, ap, _∙_}
+use mathlib.Core.Path.{_≡_, refl, sym, ap, ap₂, _∙_}
 use mathlib.Core.List.{List, [], _∷_, _++_, append-nil}
 use Prim.Native.Nat.{ℕ, zero, suc, _+_, _-_, _*_, _/_, _<_, _≤_}
 use native.Mathlib.Nat.{not-suc-le-zero, le-of-suc-le-suc}
@@ -51,6 +51,10 @@ whole-front [] = refl
 whole-front (a ∷ []) = refl
 whole-front (a ∷ b ∷ []) = refl
 whole-front (a ∷ b ∷ c ∷ l) = ap (λ (r : List ℕ). a ∷ b ∷ c ∷ r) (whole-front l)
+
+-- so two fronts of the same rows and the same numbers past them are the same
+pub same-front : (l m : List ℕ) → rows l ≡ rows m → rest l ≡ rest m → l ≡ m
+same-front l m e f = sym (whole-front l) ∙ ap₂ (λ (r : List Three) (s : List ℕ). flat r ++ s) e f ∙ whole-front m
 
 pub take-rows : (k : ℕ) (l : List ℕ) → k ≤ length (rows l) → take (3 * k) l ≡ flat (take k (rows l))
 unfolding rows flat

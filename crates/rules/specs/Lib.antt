@@ -8,6 +8,7 @@ pub mod Refusals
 pub mod Build
 pub mod Search
 pub mod Join
+pub mod JoinSteps
 pub mod Front
 pub mod Merge
 pub mod Walk

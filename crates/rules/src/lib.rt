@@ -1,4 +1,16 @@
-// The types that the promises speak of. The rules about them are the definitions in specs/, their laws stand in proofs/.
+// The types and the limits that the promises speak of. The rules about them are the definitions in specs/, their laws stand in proofs/.
+
+// n runs 1..64, side 1..16,384 cm.
+pub const MOST_TILES: u32 = 64;
+
+pub const MOST_SIDE: u32 = 16384;
+
+// Footprints in a register, entries that a run may end past, and a search's radius in cm.
+pub const MOST_FOOTPRINTS: usize = 65536;
+
+pub const MOST_ENTRIES: usize = 268435456;
+
+pub const MOST_RADIUS: u32 = 2097151;
 
 // n by n tiles, each side cm wide and high.
 pub struct Grid {

@@ -1,0 +1,5 @@
+pub mod Storing
+pub mod Merging
+pub mod Placing
+pub mod Moving
+pub mod Callers
