@@ -3,7 +3,7 @@
 use mathlib.Core.Path.{_≡_, refl, sym, ap, ap₂, _∙_}
 use mathlib.Core.Bool.{false, _||_}
 use mathlib.Core.List.{List, [], _∷_, _++_, map, map-append, List·Memᴰ, List·Memᴰ·head, List·Memᴰ·tail}
-use Prim.Native.Nat.{ℕ, zero, suc, _+_, _-_, _*_, _≤_, _<_, min}
+use Prim.Native.Nat.{ℕ, _+_, _-_, _*_, _≤_, _<_, min}
 use native.Mathlib.Omega.{arith}
 use lib.Dec.{ltb}
 use lib.ListN.{length, take, drop, length-map, length-take, length-drop}
@@ -12,7 +12,7 @@ use borrow.Author.Tests.{lt-ltb, le-ltb}
 use Rattle.laws.specs.Lists.{each, any, over}
 use Rattle.laws.proofs.Tests.{by-le}
 use Rattle.laws.proofs.Lists.{each-append}
-use Rattle.laws.proofs.Maps.{take-map, drop-map}
+use Rattle.laws.proofs.Maps.{take-map, drop-map, drop-taken}
 use Rattle.rules.specs.Tables.{Tables, builtTables}
 use Rattle.rules.specs.Refusals.{paper, paperAnswer}
 use Rattle.rules.specs.Walk.{startRoom, rowNumbers, rowWrites}
@@ -27,11 +27,6 @@ use Rattle.demands.proofs.Around.{Around}
 use Rattle.demands.proofs.Machine.{written}
 use Rattle.demands.proofs.Nearest.{inOrder, rowFor, rows-write, nearest-is, waiting-at}
 use Rattle.demands.proofs.OneAsk.{stateAt, frontAt, nextOf, one-ask, lacks-room}
-
-drop-taken : {A : Type 0} (k : ℕ) (l : List A) → drop (length (take k l)) l ≡ drop k l
-drop-taken zero l = refl
-drop-taken (suc k) [] = refl
-drop-taken (suc k) (x ∷ l) = drop-taken k l
 
 -- an ask is short, or one before it was, where more rows were asked for than there are
 short-now : (n k j m : ℕ) → m ≡ min j (n - k) → (ltb n k || ltb m j) ≡ ltb n (k + j)

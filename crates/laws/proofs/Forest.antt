@@ -70,18 +70,6 @@ module _ {A : Type 0} (key : A → ℕ) (par : A → ℕ) (brings : A → List A
         insAll-filter key (λ z. leb (par z) c) (key x) l (brings x) (up .1) (k .fresh)
         ∙ filter-same _ _ l (λ z m. ap (λ (b : Bool). leb (par z) c || b) (k .all-of z m) ∙ between z m)
 
-    pub closed-next : Closed (key x) l
-    closed-next z m = go (closed z (List·Memᴰ·tail m))
-      where
-        cases : {y : A} → par z ≡ key y → par z < key z → (y ≡ x) ⊎ List·Memᴰ y l → (par z ≤ key x) ⊎ ((y : A) × List·Memᴰ y l × (par z ≡ key y) × (par z < key z))
-        cases e k (inl f) = inl (le-of-eq (e ∙ ap key f))
-        cases {y} e k (inr n) = inr ((y, n, e, k))
-
-        go : (par z ≤ c) ⊎ ((y : A) × List·Memᴰ y (x ∷ l) × (par z ≡ key y) × (par z < key z))
-            → (par z ≤ key x) ⊎ ((y : A) × List·Memᴰ y l × (par z ≡ key y) × (par z < key z))
-        go (inl h) = inl (le-trans h (le-of-lt (up .0)))
-        go (inr h) = cases (h .2) (h .3) (List·Memᴰ·cases-cons (h .1))
-
 -- ---- a forest
 
 module _ {A : Type 0} (key : A → ℕ) (Valid : A → Type 0) (parent : A → Option A) (brings : A → List A) where

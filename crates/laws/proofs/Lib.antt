@@ -17,8 +17,8 @@ pub mod Lexicographic
 pub mod Choices
 pub mod Totals
 pub mod Lines
+pub mod Maps
 pub mod Pairs
 pub mod Computed
 pub mod Rows
 pub mod Lengths
-pub mod Maps

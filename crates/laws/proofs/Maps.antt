@@ -1,11 +1,10 @@
--- Parts and concatenations of mapped lists, and what stands at a place. Assumes nothing.
+-- Parts of lists and of mapped lists, and what stands at a place. Assumes nothing.
 use mathlib.Core.Path.{_≡_, refl, ap}
-use mathlib.Core.List.{List, [], _∷_, _++_, map, List·Memᴰ, List·Memᴰ·head, List·Memᴰ·tail}
+use mathlib.Core.List.{List, [], _∷_, map, List·Memᴰ, List·Memᴰ·head, List·Memᴰ·tail}
 use Prim.Native.Nat.{ℕ, zero, suc, _<_}
 use native.Mathlib.Nat.{not-suc-le-zero}
 use native.Mathlib.Omega.{arith}
 use lib.ListN.{length, take, drop, getD}
-use Rattle.laws.specs.Lists.{each}
 
 module _ {A B : Type 0} (f : A → B) where
   pub take-map : (n : ℕ) (l : List A) → take n (map f l) ≡ map f (take n l)
@@ -18,13 +17,14 @@ module _ {A B : Type 0} (f : A → B) where
   drop-map (suc n) [] = refl
   drop-map (suc n) (x ∷ l) = drop-map n l
 
-  pub each-map : {C : Type 0} (h : B → List C) (l : List A) → each h (map f l) ≡ each (λ x. h (f x)) l
-  each-map h [] = refl
-  each-map {C} h (x ∷ l) = ap (λ (m : List C). h (f x) ++ m) (each-map h l)
-
   pub map-map : {C : Type 0} (h : B → C) (l : List A) → map h (map f l) ≡ map (λ x. h (f x)) l
   map-map h [] = refl
   map-map {C} h (x ∷ l) = ap (λ (m : List C). h (f x) ∷ m) (map-map h l)
+
+pub drop-taken : {A : Type 0} (k : ℕ) (l : List A) → drop (length (take k l)) l ≡ drop k l
+drop-taken zero l = refl
+drop-taken (suc k) [] = refl
+drop-taken (suc k) (x ∷ l) = drop-taken k l
 
 pub at-place : (l : List ℕ) (m : ℕ) → m < length l → List·Memᴰ (getD l m 0) l
 at-place [] m h = absurd (not-suc-le-zero h)

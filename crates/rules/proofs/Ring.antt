@@ -54,7 +54,6 @@ ring-there c r Left l x y h t =
 
 -- a tile other than the point's is in its group
 pub record InRing (c r x y : ℕ) (d : Direction) : Type 0 where
-  pub dir-is : dirOf c r x y ≡ d
   pub rises : 0 < levIn d c r x y
   pub inside : inGroup c r d (levIn d c r x y) x y ≡ true
 
@@ -77,28 +76,24 @@ ring-back c r x y h =
 
     in-up : dirOf c r x y ≡ Up → x + r < c + y → c + r ≤ x + y → InRing c r x y (dirOf c r x y)
     in-up e u v = rw e (record {
-      dir-is = e;
       rises = omega arith;
       inside = rw (eq-eqb y (r + (y - r)) (omega arith), le-leb c (x + (y - r)) (omega arith), lt-ltb x (c + (y - r)) (omega arith));
     })
 
     in-right : dirOf c r x y ≡ Right → c + y ≤ x + r → c + r < x + y → InRing c r x y (dirOf c r x y)
     in-right e u v = rw e (record {
-      dir-is = e;
       rises = omega arith;
       inside = rw (eq-eqb x (c + (x - c)) (omega arith), lt-ltb r (y + (x - c)) (omega arith), le-leb y (r + (x - c)) (omega arith));
     })
 
     in-down : dirOf c r x y ≡ Down → c + y < x + r → x + y ≤ c + r → InRing c r x y (dirOf c r x y)
     in-down e u v = rw e (record {
-      dir-is = e;
       rises = omega arith;
       inside = rw (eq-eqb (y + (r - y)) r (omega arith), lt-ltb c (x + (r - y)) (omega arith), le-leb x (c + (r - y)) (omega arith));
     })
 
     in-left : dirOf c r x y ≡ Left → x + y < c + r → x + r ≤ c + y → InRing c r x y (dirOf c r x y)
     in-left e u v = rw e (record {
-      dir-is = e;
       rises = omega arith;
       inside = rw (eq-eqb (x + (c - x)) c (omega arith), le-leb r (y + (c - x)) (omega arith), lt-ltb y (r + (c - x)) (omega arith));
     })
