@@ -1,7 +1,7 @@
 -- Counting: pairs by either side, a test that one number can pass, and numbers of which no two are equal. Assumes nothing.
 use mathlib.Core.Path.{_≡_, refl, sym, ap, _∙_}
 use mathlib.Core.Bool.{Bool, true, false}
-use mathlib.Core.List.{List, [], _∷_, _++_, List·Memᴰ, List·Memᴰ·head, List·Memᴰ·tail}
+use mathlib.Core.List.{List, [], _∷_, List·Memᴰ, List·Memᴰ·head, List·Memᴰ·tail}
 use Prim.Native.Nat.{ℕ, zero, suc, _+_, _*_, _≤_, _<_, zero-le, suc-le-suc}
 use native.Mathlib.Nat.{le-trans, le-refl, le-of-eq, lt-irrefl, add-zero, zero-add, add-comm, add-le-add, suc-mul, mul-one}
 use native.Mathlib.Numerals.{one-add}

@@ -6,5 +6,12 @@ pub mod Members
 pub mod Apart
 pub mod Counting
 pub mod Places
+pub mod Blocks
+pub mod Same
 pub mod Machine
 pub mod Computed
+pub mod Lexicographic
+pub mod Choices
+pub mod Totals
+pub mod Lines
+pub mod Pairs

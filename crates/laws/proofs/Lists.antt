@@ -2,7 +2,6 @@
 use mathlib.Core.Path.{_≡_, refl, sym, ap, ap₂, _∙_}
 use mathlib.Core.Bool.{Bool, true, false, _&&_}
 use mathlib.Core.List.{List, [], _∷_, _++_, append-assoc, List·Memᴰ, List·Memᴰ·head, List·Memᴰ·tail}
-use Prim.Native.Nat.{ℕ}
 use Rattle.laws.specs.Lists.{keep, filter, each, only, all}
 
 module _ {A : Type 0} where
@@ -76,6 +75,10 @@ each-append f (x ∷ l) m = ap (λ (t : List _). f x ++ t) (each-append f l m) �
 pub each-on : {A B : Type 0} (f h : B → List A) (l : List B) → ((x : B) → List·Memᴰ x l → f x ≡ h x) → each f l ≡ each h l
 each-on f h [] e = refl
 each-on f h (x ∷ l) e = ap₂ _++_ (e x (List·Memᴰ·head refl)) (each-on f h l (λ y m. e y (List·Memᴰ·tail m)))
+
+pub each-nothing : {A B : Type 0} (l : List B) → each {B = A} (λ (x : B). []) l ≡ []
+each-nothing [] = refl
+each-nothing (x ∷ l) = each-nothing l
 
 pub all-on : {A : Type 0} (p : A → Bool) (l : List A) → ((x : A) → List·Memᴰ x l → p x ≡ true) → all p l ≡ true
 all-on p [] h = refl

@@ -4,7 +4,7 @@ use mathlib.Core.Bool.{Bool, true, false}
 use Prim.Native.Nat.{ℕ, zero, suc, _-_, _≤_, _<_}
 use native.Mathlib.Nat.{not-suc-le-zero}
 use native.Mathlib.Omega.{arith}
-use Rattle.laws.specs.Lists.{goOn, runFor}
+use Rattle.laws.specs.Lists.{runFor}
 use Rattle.laws.proofs.Tests.{by-bool}
 
 module _ {S : Type 0} (halted : S → Bool) (step : S → S) where

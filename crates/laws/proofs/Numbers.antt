@@ -1,5 +1,4 @@
 -- Squares and division. Assumes nothing.
-use mathlib.Core.Path.{_≡_}
 use Prim.Native.Nat.{ℕ, suc, _*_, _/_, _≤_, _<_}
 use native.Mathlib.Nat.{le-div-iff-mul-le, div-mul-le-self, mul-le-mul, le-trans, lt-irrefl}
 use native.Mathlib.Omega.{arith}

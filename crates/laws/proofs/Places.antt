@@ -1,6 +1,6 @@
 -- Lists laid one behind the other, any tail behind them: where each begins, and that it is the part between its two places. Assumes nothing.
 use mathlib.Core.Path.{_≡_, refl, sym, ap, _∙_}
-use mathlib.Core.List.{List, [], _∷_, _++_, append-assoc}
+use mathlib.Core.List.{List, [], _++_, append-assoc}
 use Prim.Native.Nat.{ℕ, zero, suc, _+_, _≤_, _<_, zero-le, suc-le-suc}
 use native.Mathlib.Nat.{le-of-suc-le-suc, le-trans, not-suc-le-zero, add-assoc, add-suc, suc-add, add-zero, add-sub-cancel-left, lt-irrefl}
 use native.Mathlib.Omega.{arith}

@@ -1,15 +1,15 @@
 -- Ranges of numbers: what stands in them, one more at the end, the one number of a range that passes a test. Assumes nothing.
-use mathlib.Core.Path.{_≡_, refl, sym, ap, ap₂, _∙_}
+use mathlib.Core.Path.{_≡_, refl, ap, ap₂, _∙_}
 use mathlib.Core.Logic.{_⊎_, inl, inr}
 use mathlib.Core.Bool.{Bool, true, false, _&&_, and-true, and-false}
 use mathlib.Core.List.{List, [], _∷_, _++_, append-nil, List·Memᴰ, List·Memᴰ·head, List·Memᴰ·tail, List·Memᴰ·cases-cons, List·Memᴰ·not-nil}
-use Prim.Native.Nat.{ℕ, zero, suc, _+_, _≤_, _<_}
+use Prim.Native.Nat.{ℕ, zero, suc, _+_, _≤_, _<_, zero-le}
 use native.Mathlib.Nat.{add-suc, suc-add, add-zero, zero-add, le-refl, lt-irrefl, lt-suc-self}
 use native.Mathlib.Numerals.{add-one}
 use native.Mathlib.Omega.{arith}
-use lib.Dec.{eqb}
+use lib.Dec.{eqb, ltb}
 use lib.ListN.{length}
-use borrow.Author.Tests.{eq-eqb, ne-eqb}
+use borrow.Author.Tests.{eq-eqb, ne-eqb, lt-ltb, le-ltb}
 use Rattle.laws.specs.Lists.{keep, filter, from, upTo, each, only}
 use Rattle.laws.proofs.Tests.{by-le}
 use Rattle.laws.proofs.Lists.{filter-append, each-append}
@@ -67,6 +67,17 @@ pick-one p i a (suc m) h k =
     keep-only : (b : Bool) (x : ℕ) → keep b x [] ≡ only b (x ∷ [])
     keep-only true x = refl
     keep-only false x = refl
+
+pick-beyond : (p : ℕ → Bool) (i a m : ℕ) → a + m ≤ i → filter (λ j. p j && eqb i j) (from a m) ≡ []
+pick-beyond p i a zero h = refl
+pick-beyond p i a (suc m) h = rw (ne-eqb i a (omega arith), and-false (p a)) (pick-beyond p i (suc a) m (omega arith))
+
+-- i alone, where it is in the range and passes
+pub pick : (p : ℕ → Bool) (i m : ℕ) → filter (λ j. p j && eqb i j) (upTo m) ≡ only (ltb i m && p i) (i ∷ [])
+pick p i m =
+    by-le m i
+    (λ h. rw (le-ltb i m h) (pick-beyond p i 0 m (omega arith)))
+    (λ h. rw (lt-ltb i m h) (pick-one p i 0 m zero-le (omega arith)))
 
 each-none : {A : Type 0} (b : Bool) (l : List A) (c a m : ℕ) → c < a → each (λ k. only (eqb k c && b) l) (from a m) ≡ []
 each-none b l c a zero h = refl

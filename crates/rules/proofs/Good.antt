@@ -1,9 +1,9 @@
 -- What the judges of sizes, registers and points leave: bounds, and rectangles that lie on the grid. Laws use no more of a rectangle.
 -- Assumes nothing.
-use mathlib.Core.Path.{_≡_, refl, sym, _∙_}
-use mathlib.Core.Bool.{Bool, true, false, _||_, not}
+use mathlib.Core.Path.{_≡_}
+use mathlib.Core.Bool.{true, false, _||_, not}
 use mathlib.Core.List.{List, [], List·Memᴰ, List·Memᴰ·not-nil}
-use Prim.Native.Nat.{ℕ, _+_, _*_, _%_, _≤_, _<_, zero-le}
+use Prim.Native.Nat.{ℕ, _*_, _%_, _≤_, _<_, zero-le}
 use native.Mathlib.Omega.{arith}
 use lib.Dec.{leb, ltb, eqb}
 use lib.ListN.{length}
@@ -95,7 +95,7 @@ module _ (g : Grid) (reg : List ℕ) (ok : Accepted g reg) where
       nothing : badFootprint g reg i ≡ true → ⊥
       nothing e =
           let m : List·Memᴰ i (filter (badFootprint g reg) (upTo (count reg))) =
-              filter-mem (badFootprint g reg) (upTo (count reg)) (from-mem 0 (count reg) i zero-le (omega arith)) e in
+          filter-mem (badFootprint g reg) (upTo (count reg)) (from-mem 0 (count reg) i zero-le (omega arith)) e in
           List·Memᴰ·not-nil (rw (ok .none-bad) at m)
 
   pub good-footprint : (i : ℕ) → i < count reg → GoodRect g (rectangle g reg i)

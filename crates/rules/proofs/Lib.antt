@@ -2,4 +2,16 @@ pub mod Good
 pub mod Spans
 pub mod Classes
 pub mod Report
+pub mod Built
+pub mod Visits
+pub mod Papers
+pub mod Unique
+pub mod JoinSpans
+pub mod JoinTiles
 pub mod Starred
+pub mod Order
+pub mod Memory
+pub mod Encoding
+pub mod Burden
+pub mod Steps
+pub mod GroupLines

@@ -1,16 +1,16 @@
 -- Two dimensions: a rectangle is given by exactly its reporting tile, in exactly its reporting run, and that tile is no farther than it.
 -- Assumes nothing.
 use mathlib.Core.Path.{_≡_, refl, sym, ap, ap₂, _∙_}
-use mathlib.Core.Bool.{Bool, true, false, not, _&&_}
+use mathlib.Core.Bool.{Bool, true, _&&_}
 use Prim.Native.Nat.{ℕ, _+_, _*_, _/_, _%_, _≤_, _<_}
 use native.Mathlib.Nat.{div-add-mod', div-lt-iff-lt-mul, add-le-add}
 use native.Mathlib.Omega.{arith}
-use lib.Dec.{leb, ltb, eqb}
+use lib.Dec.{eqb}
 use lib.Arith.{digits-div, digits-mod, digits-lt}
 use borrow.Author.Tests.{eqb-true, eq-eqb}
 use Rattle.laws.proofs.Tests.{iff, fst-true, snd-true, both-true, cross}
 use Rattle.laws.proofs.Numbers.{square-rises, div-rises}
-use Rattle.rules.specs.Sizes.{column, tileNo, rowOf, columnOf, tileCount, tileOf}
+use Rattle.rules.specs.Sizes.{column, tileNo, rowOf, columnOf, tileCount}
 use Rattle.rules.specs.Span.{cover, meets, place, drawn}
 use Rattle.rules.specs.Distance.{square, point, tileRect, shares}
 use Rattle.rules.specs.Classes.{classOf, allowedIn, reportTile}
@@ -98,8 +98,10 @@ module _ (g : Grid) (pos : 0 < g .side) where
     unfolding square tileRect reportTile point column
     report-near =
         let lt : drawn (g .side) (column g (q .x)) (a .x) < g .n = drawn-inside (column g (q .x)) (a .x) (ok .in-x) in
-        rw (column-again (drawn (g .side) (column g (q .y)) (a .y)) (drawn (g .side) (column g (q .x)) (a .x)) lt,
-        row-again (drawn (g .side) (column g (q .y)) (a .y)) (drawn (g .side) (column g (q .x)) (a .x)) lt)
+        rw (
+          column-again (drawn (g .side) (column g (q .y)) (a .y)) (drawn (g .side) (column g (q .x)) (a .x)) lt,
+          row-again (drawn (g .side) (column g (q .y)) (a .y)) (drawn (g .side) (column g (q .x)) (a .x)) lt,
+        )
         (add-le-add (square-rises (gap-drawn pos (q .x) (a .x) (ok .in-x .ordered))) (square-rises (gap-drawn pos (q .y) (a .y) (ok .in-y .ordered))))
 
     -- the tile of its reporting run is its reporting tile
@@ -107,11 +109,11 @@ module _ (g : Grid) (pos : 0 < g .side) where
     unfolding reportRun
     report-run-tile = run-tile (reportTile g q a) (classOf g (reportTile g q a) a) (class-below g (reportTile g q a) a)
 
-    report-run-class : reportRun g q a % 16 ≡ classOf g (reportTile g q a) a
+    pub report-run-class : reportRun g q a % 16 ≡ classOf g (reportTile g q a) a
     unfolding reportRun
     report-run-class = run-class (reportTile g q a) (classOf g (reportTile g q a) a) (class-below g (reportTile g q a) a)
 
-    run-reports : (k : ℕ) → k / 16 ≡ reportTile g q a → k % 16 ≡ classOf g (k / 16) a → k ≡ reportRun g q a
+    pub run-reports : (k : ℕ) → k / 16 ≡ reportTile g q a → k % 16 ≡ classOf g (k / 16) a → k ≡ reportRun g q a
     unfolding reportRun
     run-reports k w e = sym (run-again k) ∙ ap₂ runNo w (e ∙ ap (λ (n : ℕ). classOf g n a) w)
 
@@ -145,6 +147,6 @@ module _ (g : Grid) (pos : 0 < g .side) where
             let f : t ≡ RT = ap (λ (n : ℕ). n / 16) e ∙ report-run-tile in
             let m : k % 16 ≡ classOf g RT a = ap (λ (n : ℕ). n % 16) e ∙ report-run-class in
             let v : (shares (tileRect g RT) a && allowedIn g q RT (classOf g RT a)) ≡ true =
-                given-by-one-tile RT ∙ eq-eqb RT RT refl in
+            given-by-one-tile RT ∙ eq-eqb RT RT refl in
             rw (f, m, fst-true (shares (tileRect g RT) a) _ v, eq-eqb (classOf g RT a) (classOf g RT a) refl)
             (snd-true (shares (tileRect g RT) a) (allowedIn g q RT (classOf g RT a)) v)

@@ -1,6 +1,6 @@
 -- One dimension: a span's bits by its columns, the one column that gives it, and gaps to columns. Assumes nothing.
-use mathlib.Core.Path.{_≡_, refl, sym, ap₂}
-use mathlib.Core.Bool.{Bool, _&&_}
+use mathlib.Core.Path.{_≡_, sym, ap₂}
+use mathlib.Core.Bool.{_&&_}
 use Prim.Native.Nat.{ℕ, suc, _+_, _-_, _*_, _/_, _≤_, _<_, max, min, suc-le-suc}
 use native.Mathlib.Nat.{div-lt-iff-lt-mul, le-div-iff-mul-le, le-of-suc-le-suc, div-mul-le-self, lt-div-mul-add, mul-le-mul-right, le-trans, max-le, le-max-left, le-max-right}
 use native.Mathlib.Omega.{arith}

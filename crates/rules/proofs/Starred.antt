@@ -1,6 +1,6 @@
 -- The starred cases of document 01, one table under one statement. Assumes nothing.
 use mathlib.Core.Path.{_≡_, refl}
-use mathlib.Core.List.{List, map}
+use mathlib.Core.List.{map}
 use Rattle.rules.specs.Sizes.{badSizes, offGrid, badPoint, column, tileNo, rowOf, columnOf, tileCount, tiles, tileOf}
 use Rattle.rules.specs.Span.{cover, gap, meets, begins, ends, place, drawn}
 use Rattle.rules.specs.Distance.{square, within, point, tileRect, shares}

@@ -1,7 +1,7 @@
 -- The promises of the build, of the check and of the run: document 01, "Sizes and tables", "Classes and tile types", "Refusal numbers".
 -- Assumes nothing.
 use mathlib.Core.Bool.{Bool, _&&_, _||_, cond}
-use mathlib.Core.List.{List, [], _∷_}
+use mathlib.Core.List.{List, []}
 use Prim.Native.Nat.{ℕ, _+_, _*_}
 use lib.Dec.{leb}
 use lib.ListN.{length, take}
@@ -9,7 +9,7 @@ use Rattle.laws.specs.Lists.{over, same, part}
 use Rattle.rules.specs.Sizes.{badSizes, tileCount}
 use Rattle.rules.specs.Register.{badFootprints}
 use Rattle.rules.specs.Tables.{tables, badLengths, badStarts, badEnds, runNo, runStart, runEnd, builtEntries, builtStarts}
-use Rattle.rules.specs.Refusals.{Paper, says, paper, paperAnswer, paperChecked, paperEnds, Verdict, pass, judge, judgeFootprints, judgeRoom, unless}
+use Rattle.rules.specs.Refusals.{Paper, paper, paperAnswer, paperChecked, paperEnds, Verdict, pass, judge, judgeFootprints, judgeRoom, unless}
 use Rattle.rules.specs.declared.Grid.{Grid}
 use Rattle.rules.specs.declared.Refusal.the-variants.{Sizes, Lengths, Place, Damage}
 use Rattle.rules.specs.declared.Answer.the-variants.{Done}

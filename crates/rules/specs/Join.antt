@@ -5,7 +5,7 @@ use mathlib.Core.List.{List, [], _∷_, map}
 use Prim.Native.Nat.{ℕ, _+_}
 use lib.Dec.{leb, ltb, eqb}
 use lib.ListN.{length}
-use Rattle.laws.specs.Lists.{filter, upTo, each, only}
+use Rattle.laws.specs.Lists.{filter, upTo, each}
 use Rattle.rules.specs.Sizes.{badSizes, rowOf, columnOf, tiles}
 use Rattle.rules.specs.Distance.{within}
 use Rattle.rules.specs.Classes.{classes, markedIn}

@@ -9,6 +9,8 @@ pub mod Build
 pub mod Search
 pub mod Join
 pub mod Front
+pub mod Merge
 pub mod Walk
+pub mod Lines
 pub mod Waits
 pub mod Yard

@@ -9,7 +9,7 @@ use Rattle.laws.specs.Lists.{filter, from, upTo, each, all, part, places}
 use Rattle.rules.specs.Sizes.{mostEntries, tileCount}
 use Rattle.rules.specs.Distance.{tileRect, shares}
 use Rattle.rules.specs.Classes.{classOf}
-use Rattle.rules.specs.Register.{count, footprints, rectangle, badEntry, badRegister}
+use Rattle.rules.specs.Register.{footprints, rectangle, badEntry, badRegister}
 use Rattle.rules.specs.declared.Grid.{Grid}
 
 -- the three lent tables

@@ -4,7 +4,7 @@ use mathlib.Core.Bool.{Bool, true, false, cond, _&&_, _||_, not}
 use mathlib.Core.List.{List, [], _∷_, _++_, map}
 use Prim.Native.Nat.{ℕ, zero, suc, _+_, _-_, _*_, _/_, _%_}
 use lib.Dec.{leb, ltb, eqb}
-use lib.ListN.{length, take, drop, replicate}
+use lib.ListN.{length, take, replicate}
 use Rattle.laws.specs.Lists.{filter, each, total, runFor, over}
 use Rattle.rules.specs.Sizes.{mostTiles, badSizes, badPoint, column, rowOf, columnOf, tileCount, tiles, tileOf}
 use Rattle.rules.specs.Span.{at, cover, gap}
@@ -22,7 +22,6 @@ use Rattle.rules.specs.declared.Direction.{Direction}
 use Rattle.rules.specs.declared.Direction.the-variants.{Up, Right, Down, Left}
 use Rattle.rules.specs.declared.Item.{Item}
 use Rattle.rules.specs.declared.Item.the-variants.{Group, Tile, Footprint}
-use Rattle.rules.specs.declared.Row.{Row}
 use Rattle.rules.specs.declared.Three.{Three}
 use Rattle.rules.specs.declared.Read.{Read}
 use Rattle.rules.specs.declared.Read.the-variants.{Known, Unknown}

@@ -1,5 +1,4 @@
 -- Yard Y: the starred cases as one table, about the promises. Assumes nothing.
-use mathlib.Core.Bool.{false}
 use mathlib.Core.List.{List, [], _∷_, _++_}
 use Prim.Native.Nat.{ℕ, _*_}
 use lib.ListN.{replicate}
