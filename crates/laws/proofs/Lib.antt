@@ -13,12 +13,13 @@ pub mod Ordered
 pub mod Forest
 pub mod Gather
 pub mod Filters
+pub mod Computed
+pub mod Remaining
 pub mod Lexicographic
 pub mod Choices
 pub mod Totals
 pub mod Lines
 pub mod Maps
 pub mod Pairs
-pub mod Computed
 pub mod Rows
 pub mod Lengths
