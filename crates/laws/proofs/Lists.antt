@@ -5,7 +5,7 @@ use mathlib.Core.List.{List, [], _∷_, _++_, append-assoc, List·Memᴰ, List·
 use Rattle.laws.specs.Lists.{keep, filter, each, only, all}
 
 module _ {A : Type 0} where
-  keep-append : (b : Bool) (x : A) (l m : List A) → keep b x l ++ m ≡ keep b x (l ++ m)
+  pub keep-append : (b : Bool) (x : A) (l m : List A) → keep b x l ++ m ≡ keep b x (l ++ m)
   keep-append true x l m = refl
   keep-append false x l m = refl
 

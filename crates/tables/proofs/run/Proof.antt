@@ -27,10 +27,10 @@ mul-result : tie.Need-mul-result
 mul-result c = omega (arith, good (c .before))
 
 sub-result : tie.Need-sub-result
-sub-result c = good (c .before) .0
+sub-result c = omega (arith, good (c .before))
 
 part-result-start : tie.Need-part-result-start
-part-result-start c = good (c .before) .0
+part-result-start c = omega (arith, good (c .before))
 
 part-result-end : tie.Need-part-result-end
 part-result-end c = good (c .before) .1

@@ -1,0 +1,4 @@
+pub mod Flat
+pub mod Tiles
+pub mod Sort
+pub mod Judged
