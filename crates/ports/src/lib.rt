@@ -2,15 +2,13 @@
 
 use rules::Answer;
 use rules::Checked;
-use rules::Ends;
 use rules::Grid;
 use rules::Refusal;
-use rules::Walk;
 ghost use mathlib.Core.Path.{_≡_};
 ghost use lib.ListN.{length};
 ghost use Rattle.rules.specs.Tables.{tables};
 ghost use Rattle.rules.specs.Refusals.{paper, paperAnswer, paperChecked};
-ghost use Rattle.rules.specs.Build.{builds, checks};
+ghost use Rattle.rules.specs.Build.{builds};
 ghost use Rattle.ports.specs.Outward.{told as toldIs, outward, outward₁, outward₂};
 
 // An answer as C has it.
@@ -81,23 +79,6 @@ pub extern "C" fn luv_build_n(
     ensures { λ k. ⌜ (toldIs k (now (value .exit)), now (starts .exit), now (entries .exit)) ≡ outward₂ (builds (record { n = n; side = side }) (now (reg .entry)) (now (starts .entry)) (now (entries .entry))) ⌝ }
 {
     let t = told_answer(index::build(Grid { n: n, side: side }, reg, starts, entries));
-    *value = t.value;
-    t.number
-}
-
-// Whether starts and entries are what the build leaves; value: 1 for yes, 0 for no, or what the refusal names.
-#[no_mangle]
-pub extern "C" fn luv_check_n(
-    n: u32,
-    side: u32,
-    reg: &[u32],
-    starts: &[u32],
-    entries: &[u32],
-    value: &mut u64,
-) -> u32
-    ensures { λ k. ⌜ toldIs k (now (value .exit)) ≡ outward (checks (record { n = n; side = side }) (now (reg .entry)) (now (starts .entry)) (now (entries .entry))) ⌝ }
-{
-    let t = told_checked(index::check(Grid { n: n, side: side }, reg, starts, entries));
     *value = t.value;
     t.number
 }

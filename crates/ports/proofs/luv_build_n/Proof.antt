@@ -1,0 +1,24 @@
+-- `ports::luv_build_n` meets its contract: the build's, told to C. Assumes nothing.
+use Rattle.ports.proofs.Tell.{with-two}
+use borrow.Author.Needs.{needs}
+use Rattle.ports.proofs.luv_build_n.Statement.{statement}
+use Rattle.ports.proofs.luv_build_n.Tie as tie
+
+build-requires : tie.Need-build-requires
+build-requires c κs = search needs
+
+told-answer-requires : tie.Need-told-answer-requires
+told-answer-requires c κs = search needs
+
+same-length : tie.Need-same-length
+same-length c = search needs
+
+same-length-2 : tie.Need-same-length-2
+same-length-2 c = search needs
+
+returns : tie.Need-returns
+returns c = with-two _ _ _ _ _ (c .told-answer .ensures) (c .before .before .before .before .before .build .ensures)
+
+pub luv-build-n-spec : {M : Type 1} → statement M
+luv-build-n-spec =
+    tie.close (tie.spec build-requires told-answer-requires same-length same-length-2 returns)
