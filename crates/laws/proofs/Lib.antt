@@ -9,11 +9,12 @@ pub mod Places
 pub mod Blocks
 pub mod Same
 pub mod Machine
+pub mod Computed
+pub mod Remaining
 pub mod Lexicographic
 pub mod Choices
 pub mod Totals
 pub mod Lines
 pub mod Pairs
-pub mod Computed
 pub mod Rows
 pub mod Lengths
