@@ -1,0 +1,9 @@
+pub mod Keeping
+pub mod Loops
+pub mod Judging
+pub mod Around
+pub mod Listing
+pub mod Sides
+pub mod Levels
+pub mod Writing
+pub mod Verdicts

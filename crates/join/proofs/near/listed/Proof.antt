@@ -1,0 +1,23 @@
+-- `join::near::listed` meets its contract: today distance alone decides. Assumes nothing.
+use mathlib.Core.Path.{ap₂, _∙_}
+use Rattle.rules.specs.Distance.{within}
+use Rattle.rules.specs.Join.{lists}
+use Rattle.join.proofs.Listing.{named-below, named-near}
+use Rattle.join.proofs.near.listed.Statement.{statement}
+use Rattle.join.proofs.near.listed.Tie as tie
+
+footprint-requires : tie.Need-footprint-requires
+footprint-requires c κs = named-below (c .before .before .args .g) (c .before .before .args .reg-r .now) (c .before .before .args .i) (c .before .before .pre .1)
+
+footprint-requires-2 : tie.Need-footprint-requires-2
+footprint-requires-2 c κs = named-below (c .before .before .before .args .g) (c .before .before .before .args .reg-s .now) (c .before .before .before .args .j) (c .before .before .before .pre .2)
+
+near-requires : tie.Need-near-requires
+near-requires c κs = rw (c .before .footprint .ensures, c .footprint2 .ensures) (named-near (c .before .before .before .before .args .g) (c .before .before .before .before .args .reg-r .now) (c .before .before .before .before .args .i) (c .before .before .before .before .pre .0) (c .before .before .before .before .pre .1), named-near (c .before .before .before .before .args .g) (c .before .before .before .before .args .reg-s .now) (c .before .before .before .before .args .j) (c .before .before .before .before .pre .0) (c .before .before .before .before .pre .2))
+
+returns : tie.Need-returns
+unfolding lists
+returns c = c .near .ensures ∙ ap₂ (within (c .before .before .before .before .before .args .r)) (c .before .before .footprint .ensures) (c .before .footprint2 .ensures)
+
+pub listed-spec : {M : Type 1} → statement M
+listed-spec = tie.close (tie.spec footprint-requires footprint-requires-2 near-requires returns)

@@ -1,0 +1,68 @@
+-- `join::write` meets its contract: a small result is copied, a large one found again and laid into the output. Assumes nothing.
+use mathlib.Core.Path.{_≡_}
+use Prim.Native.Nat.{_≤_}
+use lib.ListN.{length}
+use Rattle.rules.specs.Tables.{tables}
+use Rattle.rules.specs.Join.{joinPairs}
+use Rattle.rules.proofs.JoinCount.{few-pairs}
+use Rattle.join.specs.Keeping.{mostPairs}
+use Rattle.join.proofs.Writing.{found-all, no-room, copied, laid}
+use native.Mathlib.Omega.{arith}
+use borrow.Author.Needs.{needs}
+use Rattle.join.proofs.write.Statement.{statement}
+use Rattle.join.proofs.write.Tie as tie
+
+all-found : (c : tie.After-all) → c .all .result ≡ length (joinPairs (c .before .before .before .before .before .before .before .before .before .args .g) (tables (c .before .before .before .before .before .before .before .before .before .args .reg-r .now) (c .before .before .before .before .before .before .before .before .before .args .starts-r .now) (c .before .before .before .before .before .before .before .before .before .args .entries-r .now)) (tables (c .before .before .before .before .before .before .before .before .before .args .reg-s .now) (c .before .before .before .before .before .before .before .before .before .args .starts-s .now) (c .before .before .before .before .before .before .before .before .before .args .entries-s .now)) (c .before .before .before .before .before .before .before .before .before .args .r))
+all-found c = found-all _ _ _ _ (c .all .ensures)
+
+few : (c : tie.After-all) → c .all .result ≤ mostPairs
+few c = let a = c .before .before .before .before .before .before .before .before .before .args in rw (all-found c) (few-pairs (a .g) (tables (a .reg-r .now) (a .starts-r .now) (a .entries-r .now)) (tables (a .reg-s .now) (a .starts-s .now) (a .entries-s .now)) (a .r) (c .before .before .before .before .before .before .before .before .before .pre .of-r .all-good) (c .before .before .before .before .before .before .before .before .before .pre .of-s .all-good))
+
+slice-aggregate-all : tie.Need-slice-aggregate-all
+slice-aggregate-all c = search needs
+
+all-requires : tie.Need-all-requires
+all-requires c κs = search needs
+
+mul-need : tie.Need-mul-need
+mul-need c = omega (arith, few (c .before))
+
+returns : tie.Need-returns
+returns c = let a = c .before .before .before .before .before .before .before .before .before .before .before .args in no-room (joinPairs (a .g) (tables (a .reg-r .now) (a .starts-r .now) (a .entries-r .now)) (tables (a .reg-s .now) (a .starts-s .now) (a .entries-s .now)) (a .r)) (a .out .now) (c .before .before .all .result) (all-found (c .before .before)) (c .if1 .taken)
+
+slice-aggregate-copy : tie.Need-slice-aggregate-copy
+slice-aggregate-copy c = search needs
+
+copy-requires : tie.Need-copy-requires
+copy-requires c κs = search needs
+
+same-length : tie.Need-same-length
+same-length c = search needs
+
+returns-2 : tie.Need-returns-2
+returns-2 c = let a = c .before .before .before .before .before .before .before .before .before .before .before .before .before .before .before .before .before .args in copied (joinPairs (a .g) (tables (a .reg-r .now) (a .starts-r .now) (a .entries-r .now)) (tables (a .reg-s .now) (a .starts-s .now) (a .entries-s .now)) (a .r)) (a .out .now) (c .before .before .before .before .before .before .before .before .all .result) _ _ _ (c .before .before .before .before .before .before .before .before .all .ensures) (omega arith) (omega arith) (c .before .before .copy .ensures)
+
+all-requires-2 : tie.Need-all-requires-2
+all-requires-2 c κs = search needs
+
+same-length-2 : tie.Need-same-length-2
+same-length-2 c = search needs
+
+returns-3 : tie.Need-returns-3
+returns-3 c = let a = c .before .before .before .before .before .before .before .before .before .before .before .before .before .before .before .before .args in laid (joinPairs (a .g) (tables (a .reg-r .now) (a .starts-r .now) (a .entries-r .now)) (tables (a .reg-s .now) (a .starts-s .now) (a .entries-s .now)) (a .r)) (a .out .now) (c .before .before .before .before .before .before .before .all .result) _ (all-found (c .before .before .before .before .before .before .before)) (omega arith) _ (c .before .before .all2 .ensures)
+
+pub write-spec : {M : Type 1} → statement M
+write-spec =
+    tie.close
+    (tie.spec
+    slice-aggregate-all
+    all-requires
+    mul-need
+    returns
+    slice-aggregate-copy
+    copy-requires
+    same-length
+    returns-2
+    all-requires-2
+    same-length-2
+    returns-3)

@@ -1,0 +1,43 @@
+// Whether a pair of footprints, met in two joined runs, is listed.
+use rules::Grid;
+use rules::Rect;
+ghost use mathlib.Core.Path.{_≡_};
+ghost use mathlib.Core.Bool.{false};
+ghost use Rattle.rules.specs.Sizes.{badSizes};
+ghost use Rattle.rules.specs.Distance.{within};
+ghost use Rattle.rules.specs.Register.{badEntry};
+ghost use Rattle.rules.specs.Join.{lists};
+ghost use Rattle.grid.specs.Tiles.{Near};
+
+fn wide(x: u32) -> u64
+    ensures { λ r. ⌜ r ≡ x ⌝ }
+{
+    x as u64
+}
+
+// Whether two rectangles are within r.
+fn near(r: u32, a: Rect, b: Rect) -> bool
+    requires { ⌜ Near a × Near b ⌝ }
+    ensures { λ c. ⌜ c ≡ within r a b ⌝ }
+{
+    grid::square(a, b) <= wide(r) * wide(r)
+}
+
+// Whether footprints i of R and j of S, met in the joined runs k and m, are listed.
+pub(crate) fn listed(
+    g: Grid,
+    reg_r: &[u32],
+    reg_s: &[u32],
+    r: u32,
+    k: usize,
+    m: usize,
+    i: u32,
+    j: u32,
+) -> bool
+    requires { ⌜ (badSizes g ≡ false) × (badEntry g (now «reg_r») i ≡ false) × (badEntry g (now «reg_s») j ≡ false) ⌝ }
+    ensures { λ c. ⌜ c ≡ lists g (now («reg_r» .entry)) (now («reg_s» .entry)) r k m (i, j) ⌝ }
+{
+    let a = tables::footprint(g, reg_r, i as usize);
+    let b = tables::footprint(g, reg_s, j as usize);
+    near(r, a, b)
+}
