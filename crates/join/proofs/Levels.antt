@@ -51,6 +51,21 @@ empty-pairs g regR ts r t u a [] h b = go (markedIn g t u a b)
     go false = refl
 empty-pairs g regR ts r t u a (i ∷ l) h b = absurd (not-suc-le-zero {n = 0} (omega arith))
 
+-- nor has one of S
+pub no-entries : (g : Grid) (regR : List ℕ) (ts : Tables) (r t u a : ℕ) (l : List ℕ) (b m : ℕ) (ls : List ℕ)
+    → m ≡ runNo u b → ls ≡ runAt ts m → length ls ≡ 0 → markedPairs g regR ts r t u a l b ≡ []
+unfolding markedPairs runsPairs entryPairs
+no-entries g regR ts r t u a l b m ls em el h =
+    rw (← em, ← el) (ap (only (markedIn g t u a b)) (each-empty _ l (λ i. none i ls h)) ∙ go (markedIn g t u a b))
+  where
+    none : (i : ℕ) (ls : List ℕ) → length ls ≡ 0 → each (onePair g regR (ts .reg) r (runNo t a) m i) ls ≡ []
+    none i [] h = refl
+    none i (j ∷ ls) h = absurd (not-suc-le-zero {n = 0} (omega arith))
+
+    go : (x : Bool) → only {A = Pair} x [] ≡ []
+    go true = refl
+    go false = refl
+
 -- ---- a class of R's tile with S's tile
 
 module _ (g : Grid) (sizes : badSizes g ≡ false) (tr ts : Tables) (r t u a : ℕ) (l : List ℕ) (e : l ≡ runAt tr (runNo t a)) where
