@@ -15,3 +15,5 @@ pub mod Choices
 pub mod Totals
 pub mod Lines
 pub mod Pairs
+pub mod Boxes
+pub mod Parts
