@@ -10,6 +10,7 @@ pub mod Blocks
 pub mod Same
 pub mod Machine
 pub mod Computed
+pub mod Remaining
 pub mod Lexicographic
 pub mod Choices
 pub mod Totals
