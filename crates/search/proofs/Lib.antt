@@ -1,0 +1,4 @@
+pub mod Left
+pub mod Entries
+pub mod Part
+pub mod Tile
