@@ -2,3 +2,4 @@ pub mod Left
 pub mod Entries
 pub mod Part
 pub mod Tile
+pub mod Classes

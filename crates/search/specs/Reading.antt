@@ -2,16 +2,17 @@
 use mathlib.Core.Path.{_≡_}
 use mathlib.Core.Bool.{Bool, true, false, not, _&&_}
 use mathlib.Core.List.{List, [], _∷_, _++_}
-use Prim.Native.Nat.{ℕ, _+_, _-_, _≤_}
+use Prim.Native.Nat.{ℕ, _+_, _-_, _*_, _≤_, _<_}
 use lib.ListN.{length}
 use lib.Seq.{sets}
 use Rattle.laws.specs.Lists.{filter, each, all, part}
 use Rattle.rules.specs.Sizes.{badSizes, badPoint}
 use Rattle.rules.specs.Register.{badEntry}
 use Rattle.rules.specs.Tables.{Tables, badStarts, runAt, goodRuns}
-use Rattle.rules.specs.Search.{visits, allowedRuns, isHit, hitWrites}
+use Rattle.rules.specs.Search.{allowedRun, allowedRuns, visits, isHit, hitWrites}
 use Rattle.rules.specs.declared.Grid.{Grid}
 use Rattle.rules.specs.declared.Point.{Point}
+use Rattle.grid.specs.Places.{isOn}
 use Rattle.search.specs.declared.Tally.{Tally}
 use Rattle.search.specs.declared.Held.{Held}
 
@@ -27,6 +28,10 @@ pub record Ready (g : Grid) (starts : List ℕ) (q : Point) (r : ℕ) : Type 0 w
   pub placed : Placed g q
   pub lengths : badStarts g starts ≡ false
   pub radius : r ≤ 2097151
+
+-- a mask has exactly the classes that are allowed in a tile
+pub record Allows (g : Grid) (q : Point) (tile mask : ℕ) : Type 0 where
+  pub rule : (class : ℕ) → class < 16 → isOn mask class ≡ allowedRun g q (16 * tile + class)
 
 -- ---- hits kept in what is lent, while they fit
 
