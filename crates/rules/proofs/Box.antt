@@ -1,14 +1,14 @@
 -- The box of a search: a tile outside it is farther than r, so the visited tiles are those of its rows and columns. Assumes nothing.
-use mathlib.Core.Path.{_≡_, sym, ap, _∙_}
+use mathlib.Core.Path.{_≡_, sym, _∙_}
 use mathlib.Core.Bool.{true}
-use Prim.Native.Nat.{ℕ, suc, _+_, _-_, _*_, _/_, _≤_, _<_, max, min}
-use native.Mathlib.Nat.{div-lt-iff-lt-mul, le-div-iff-mul-le, le-of-suc-le-suc, le-trans}
+use Prim.Native.Nat.{ℕ, suc, _+_, _-_, _*_, _/_, _≤_, _<_}
+use native.Mathlib.Nat.{div-lt-iff-lt-mul, le-div-iff-mul-le}
 use native.Mathlib.Omega.{arith}
 use borrow.Author.Tests.{leb-true}
 use Rattle.laws.specs.Lists.{filter, from, each}
 use Rattle.laws.proofs.Boxes.{box}
 use Rattle.laws.proofs.Numbers.{square-back, div-rises}
-use Rattle.rules.specs.Sizes.{column, tileNo, tileCount, tiles, rowOf, columnOf}
+use Rattle.rules.specs.Sizes.{column, tileNo, tileCount, tiles}
 use Rattle.rules.specs.Span.{at, cover, gap}
 use Rattle.rules.specs.Distance.{sq, within, square, point, tileRect}
 use Rattle.rules.specs.Search.{visits, visited}

@@ -1,7 +1,7 @@
 -- The box of a search: the columns and the rows that lie within r of the point, and the tiles of one of its rows. What lies outside it is
 -- not visited: a law. Assumes nothing.
 use mathlib.Core.List.{List}
-use Prim.Native.Nat.{ℕ, _+_, _-_, _/_, min}
+use Prim.Native.Nat.{ℕ, _+_, _-_, min}
 use Rattle.laws.specs.Lists.{from}
 use Rattle.rules.specs.Sizes.{column, tileNo}
 use Rattle.rules.specs.declared.Grid.{Grid}

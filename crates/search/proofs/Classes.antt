@@ -1,6 +1,6 @@
 -- The loop over a tile's classes: what is left of the tile, one class more, damage, the end. Assumes nothing.
-use mathlib.Core.Path.{_≡_, refl, sym, ap, ap₂, _∙_}
-use mathlib.Core.Bool.{Bool, true, false, not, _&&_, and-assoc, and-true}
+use mathlib.Core.Path.{_≡_, refl, sym, ap, _∙_}
+use mathlib.Core.Bool.{Bool, true, false, _&&_, and-assoc, and-true}
 use mathlib.Core.List.{List, [], _∷_, _++_, append-assoc, append-nil}
 use Prim.Native.Nat.{ℕ, suc, _+_, _-_, _*_, _≤_, _<_}
 use native.Mathlib.Nat.{add-zero}
@@ -19,7 +19,7 @@ use Rattle.rules.specs.declared.Point.{Point}
 use Rattle.search.specs.Reading.{keepHit, Left, goodEntries, hitsIn, hitsOf, heldIn, Lies, Holds, JudgedEntries, JudgedRuns}
 use Rattle.search.specs.declared.Tally.{Tally}
 use Rattle.search.specs.declared.Held.{Held}
-use Rattle.search.proofs.Left.{left-all, left-same, left-as, left-on, left-bad, left-none}
+use Rattle.search.proofs.Left.{left-same, left-on, left-bad, left-none}
 use Rattle.search.proofs.Entries.{tally}
 use Rattle.search.proofs.Tile.{held, good-runs-append, hits-of-append}
 

@@ -1,15 +1,14 @@
 -- An entry judged: its footprint and the point lie on the grid, and the three outcomes, damage, too far, a hit. Assumes nothing.
-use mathlib.Core.Path.{_≡_, refl, sym, ap, _∙_}
-use mathlib.Core.Bool.{Bool, true, false, _&&_, _||_, not}
+use mathlib.Core.Path.{_≡_, sym, ap, _∙_}
+use mathlib.Core.Bool.{Bool, true, false}
 use mathlib.Core.List.{List, [], _∷_}
 use Prim.Native.Nat.{ℕ, _+_, _*_, _≤_, _<_}
 use native.Mathlib.Nat.{add-zero, mul-le-mul}
 use native.Mathlib.Omega.{arith}
-use lib.Dec.{leb}
 use borrow.Author.Tests.{le-leb, lt-leb}
 use Rattle.laws.proofs.Tests.{clash}
 use Rattle.rules.specs.Distance.{within, point}
-use Rattle.rules.specs.Register.{count, recorded, rectangle, badSpan, badFootprint, badEntry}
+use Rattle.rules.specs.Register.{count, rectangle, badSpan, badFootprint, badEntry}
 use Rattle.rules.specs.Search.{isHit}
 use Rattle.rules.specs.declared.Grid.{Grid}
 use Rattle.rules.specs.declared.Point.{Point}

@@ -1,7 +1,7 @@
 -- What is still to be read: nothing read yet, a piece read, damage met; and hits kept one after the other. Assumes nothing.
 use mathlib.Core.Path.{_≡_, refl, sym, ap, _∙_}
 use mathlib.Core.Bool.{Bool, true, false, _&&_}
-use mathlib.Core.List.{List, [], _∷_, _++_, append-nil}
+use mathlib.Core.List.{List, [], _∷_, _++_}
 use Prim.Native.Nat.{ℕ, suc, _+_, _≤_}
 use native.Mathlib.Nat.{add-zero, zero-add}
 use native.Mathlib.Omega.{arith}
@@ -11,8 +11,7 @@ use Rattle.laws.specs.Lists.{each, over}
 use Rattle.rules.specs.Search.{hitWrites}
 use Rattle.rules.specs.declared.Grid.{Grid}
 use Rattle.rules.specs.declared.Point.{Point}
-use Rattle.search.specs.Reading.{keepHit, kept, Left, Judged}
-use Rattle.search.specs.declared.Tally.{Tally}
+use Rattle.search.specs.Reading.{keepHit, kept, Left}
 
 -- ---- hits kept one after the other
 

@@ -5,3 +5,5 @@ pub mod Tile
 pub mod Classes
 pub mod Pieces
 pub mod Tiles
+pub mod Verdicts
+pub mod Copies

@@ -1,26 +1,25 @@
 -- The loop over a tile's classes: neighbouring runs joined to one part that is held back, and what is left of the tile. Assumes nothing.
 use mathlib.Core.Path.{_≡_, refl, sym, ap, ap₂, _∙_}
-use mathlib.Core.Bool.{Bool, true, false, not, _&&_, _||_, and-assoc, and-false, and-true}
-use mathlib.Core.List.{List, [], _∷_, _++_, append-assoc, append-nil}
-use Prim.Native.Nat.{ℕ, suc, _+_, _-_, _*_, _≤_, _<_}
-use native.Mathlib.Nat.{add-zero}
+use mathlib.Core.Bool.{Bool, true, false, not, _&&_, _||_, and-false, and-true}
+use mathlib.Core.List.{List, [], _∷_, _++_, append-nil}
+use Prim.Native.Nat.{ℕ, _+_, _-_, _≤_}
 use native.Mathlib.Omega.{arith}
 use lib.Dec.{ltb}
 use lib.ListN.{length}
 use borrow.Author.Tests.{ltb-false}
-use Rattle.laws.specs.Lists.{filter, from, each, part}
+use Rattle.laws.specs.Lists.{each, part}
 use Rattle.laws.proofs.Lists.{filter-append, each-append}
 use Rattle.laws.proofs.Parts.{all-append, part-joined}
 use Rattle.laws.proofs.Tests.{clash, neither}
 use Rattle.rules.specs.Register.{badEntry}
-use Rattle.rules.specs.Tables.{Tables, runStart, runEnd, runAt, badEnds, goodRun, goodRuns, tileRuns}
-use Rattle.rules.specs.Search.{allowedRun, allowedRuns, isHit}
+use Rattle.rules.specs.Tables.{Tables, runStart, runEnd, runAt, badEnds, goodRun, goodRuns}
+use Rattle.rules.specs.Search.{isHit}
 use Rattle.rules.specs.declared.Grid.{Grid}
 use Rattle.rules.specs.declared.Point.{Point}
-use Rattle.search.specs.Reading.{keepHit, Left, goodEntries, hitsIn, hitsOf, heldIn, Lies, Holds, JudgedEntries, JudgedRuns}
+use Rattle.search.specs.Reading.{goodEntries, hitsIn, hitsOf, heldIn, Lies, Holds, JudgedEntries}
 use Rattle.search.specs.declared.Tally.{Tally}
 use Rattle.search.specs.declared.Held.{Held}
-use Rattle.search.proofs.Left.{left-all, left-same, left-as, left-on, left-bad, left-none}
+use Rattle.search.proofs.Left.{left-all, left-same, left-as, left-on}
 
 abbrev pub held : ℕ → ℕ → ℕ → Bool → Held
 held b p c d = record { begin = b; past = p; count = c; bad = d }

@@ -4,7 +4,6 @@ use mathlib.Core.Bool.{Bool, true, false}
 use mathlib.Core.List.{List, [], _∷_, _++_, append-nil}
 use Prim.Native.Nat.{ℕ, zero, suc, _+_, _-_, _*_, _/_, _%_, _≤_, _<_}
 use native.Mathlib.Omega.{arith}
-use lib.ListN.{length}
 use Rattle.laws.specs.Lists.{filter, from, each}
 use Rattle.laws.proofs.Lists.{filter-append, each-append}
 use Rattle.laws.proofs.Tests.{clash}
@@ -13,7 +12,7 @@ use Rattle.rules.specs.Span.{cover, place}
 use Rattle.rules.specs.Distance.{within, point}
 use Rattle.rules.specs.Classes.{allowed, allowedIn}
 use Rattle.rules.specs.Tables.{Tables, goodRuns}
-use Rattle.rules.specs.Search.{allowedRun, allowedRuns, visits, visited, readRuns}
+use Rattle.rules.specs.Search.{allowedRun, allowedRuns, visits, readRuns}
 use Rattle.rules.specs.Box.{firstColumn, lastColumn, columnsNear, boxRow}
 use Rattle.rules.specs.declared.Grid.{Grid}
 use Rattle.rules.specs.declared.Point.{Point}

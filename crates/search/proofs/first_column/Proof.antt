@@ -1,16 +1,12 @@
+-- `search::first_column` meets its contract: a difference cut at 0. Assumes nothing.
 use mathlib.Core.Path.{_≡_, ap, _∙_}
-use Prim.Native.Nat.{ℕ, _-_}
+use Prim.Native.Nat.{_-_}
 use Rattle.rules.specs.Sizes.{column}
 use Rattle.rules.specs.Box.{firstColumn}
 use native.Mathlib.Omega.{arith}
 use borrow.Author.Needs.{needs}
 use Rattle.search.proofs.first_column.Statement.{statement}
 use Rattle.search.proofs.first_column.Tie as tie
-use Rattle.search.proofs.first_column.Reads as reads
-use Rattle.search.proofs.first_column.Lts as lts
-use Rattle.grid.proofs.column.Reads as column-reads
-
--- `search::first_column` meets its contract: a difference cut at 0. Assumes nothing.
 
 column-requires : tie.Need-column-requires
 column-requires c κs = search needs

@@ -1,17 +1,10 @@
-use mathlib.Core.Path.{refl, sym, _∙_}
+-- `search::hold` meets its contract: damaged ends, a run that joins, a part that is read. Assumes nothing.
+use mathlib.Core.Path.{sym, _∙_}
 use Rattle.rules.specs.Tables.{tables, runStart, runEnd}
 use Rattle.search.proofs.Tile.{hold-damaged, hold-joined, hold-next}
-use native.Mathlib.Omega.{arith}
 use borrow.Author.Needs.{needs}
 use Rattle.search.proofs.hold.Statement.{statement}
 use Rattle.search.proofs.hold.Tie as tie
-use Rattle.search.proofs.hold.Reads as reads
-use Rattle.search.proofs.hold.Lts as lts
-use Rattle.search.proofs.judge_part.Reads as judge-part-reads
-use Rattle.search.proofs.wide.Reads as wide-reads
-use Rattle.tables.proofs.bad_ends.Reads as bad-ends-reads
-
--- `search::hold` meets its contract: damaged ends, a run that joins, a part that is read. Assumes nothing.
 
 mul-wide : tie.Need-mul-wide
 mul-wide c = search needs

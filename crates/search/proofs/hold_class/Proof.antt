@@ -1,3 +1,4 @@
+-- `search::hold_class` meets its contract: the mask says whether the class is allowed. Assumes nothing.
 use mathlib.Core.Path.{sym, _∙_}
 use Prim.Native.Nat.{_+_, _*_}
 use borrow.Author.Tests.{not-true, not-false}
@@ -7,13 +8,6 @@ use native.Mathlib.Omega.{arith}
 use borrow.Author.Needs.{needs}
 use Rattle.search.proofs.hold_class.Statement.{statement}
 use Rattle.search.proofs.hold_class.Tie as tie
-use Rattle.search.proofs.hold_class.Reads as reads
-use Rattle.search.proofs.hold_class.Lts as lts
-use Rattle.grid.proofs.is_on.Reads as is-on-reads
-use Rattle.search.proofs.hold.Reads as hold-reads
-use Rattle.search.proofs.wide.Reads as wide-reads
-
--- `search::hold_class` meets its contract: the mask says whether the class is allowed. Assumes nothing.
 
 is-on-requires : tie.Need-is-on-requires
 is-on-requires c κs = search needs

@@ -1,4 +1,4 @@
-use mathlib.Core.Path.{refl, _∙_}
+-- `search::judge_at` meets its contract: the tile's square, then its allowed classes. Assumes nothing.
 use borrow.Author.Tests.{not-true, not-false}
 use Rattle.rules.specs.Tables.{tables}
 use Rattle.rules.proofs.Good.{good-sizes}
@@ -8,16 +8,6 @@ use native.Mathlib.Omega.{arith}
 use borrow.Author.Needs.{needs}
 use Rattle.search.proofs.judge_at.Statement.{statement}
 use Rattle.search.proofs.judge_at.Tie as tie
-use Rattle.search.proofs.judge_at.Reads as reads
-use Rattle.search.proofs.judge_at.Lts as lts
-use Rattle.grid.proofs.allowed_mask.Reads as allowed-mask-reads
-use Rattle.grid.proofs.column.Reads as column-reads
-use Rattle.grid.proofs.cover.Reads as cover-reads
-use Rattle.grid.proofs.tile_no.Reads as tile-no-reads
-use Rattle.search.proofs.judge_tile.Reads as judge-tile-reads
-use Rattle.search.proofs.within.Reads as within-reads
-
--- `search::judge_at` meets its contract: the tile's square, then its allowed classes. Assumes nothing.
 
 cover-requires : tie.Need-cover-requires
 cover-requires c κs = let s = good-sizes (c .before .before .before .before .args .g) (c .before .before .before .before .pre .0 .placed .sizes) in omega arith

@@ -1,5 +1,6 @@
+-- `search::judge_box` meets its contract: what is left of the box, row by row. Assumes nothing.
 use borrow.Author.Needs.{needs}
-use Prim.Native.Nat.{ℕ, _+_, _-_}
+use Prim.Native.Nat.{_+_, _-_}
 use Rattle.rules.specs.Distance.{point}
 use Rattle.rules.specs.Tables.{tables}
 use Rattle.rules.proofs.Good.{good-sizes, on-grid}
@@ -9,13 +10,6 @@ use Rattle.search.proofs.Tiles.{rowRuns, box-judged, columns-fit}
 use native.Mathlib.Omega.{arith}
 use Rattle.search.proofs.judge_box.Statement.{statement}
 use Rattle.search.proofs.judge_box.Tie as tie
-use Rattle.search.proofs.judge_box.Reads as reads
-use Rattle.search.proofs.judge_box.Lts as lts
-use Rattle.search.proofs.first_column.Reads as first-column-reads
-use Rattle.search.proofs.judge_row.Reads as judge-row-reads
-use Rattle.search.proofs.last_column.Reads as last-column-reads
-
--- `search::judge_box` meets its contract: what is left of the box, row by row. Assumes nothing.
 
 abbrev Inv-loop : tie.InvT-loop
 Inv-loop g reg starts entries q r lent₀ first last found₀ row₀ lent found row =

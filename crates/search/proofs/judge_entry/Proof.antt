@@ -1,3 +1,4 @@
+-- `search::judge_entry` meets its contract: each test of the entry, and its distance, decide its outcome. Assumes nothing.
 use mathlib.Core.Path.{refl, sym, _∙_}
 use borrow.Author.Tests.{not-true, not-false}
 use Rattle.search.proofs.Entries.{near-point, near-rect, bad-number, bad-x, bad-y, good-entry, tested-x, tested-y, tested-hit, entry-bad, entry-far, entry-hit}
@@ -5,16 +6,6 @@ use native.Mathlib.Omega.{arith}
 use borrow.Author.Needs.{needs}
 use Rattle.search.proofs.judge_entry.Statement.{statement}
 use Rattle.search.proofs.judge_entry.Tie as tie
-use Rattle.search.proofs.judge_entry.Reads as reads
-use Rattle.search.proofs.judge_entry.Lts as lts
-use Rattle.search.proofs.keep_hit.Reads as keep-hit-reads
-use Rattle.search.proofs.wide.Reads as wide-reads
-use Rattle.search.proofs.within.Reads as within-reads
-use Rattle.tables.proofs.bad_span.Reads as bad-span-reads
-use Rattle.tables.proofs.count.Reads as count-reads
-use Rattle.tables.proofs.footprint.Reads as footprint-reads
-
--- `search::judge_entry` meets its contract: each test of the entry, and its distance, decide its outcome. Assumes nothing.
 
 wide-requires : tie.Need-wide-requires
 wide-requires c κs = search needs

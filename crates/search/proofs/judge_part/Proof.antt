@@ -1,14 +1,9 @@
-use borrow.Author.Needs.{needs}
-use Prim.Native.Nat.{ℕ, _-_}
+-- `search::judge_part` meets its contract: what is left of the part, entry by entry. Assumes nothing.
+use Prim.Native.Nat.{_-_}
 use Rattle.search.proofs.Part.{PartLeft, part-all, part-on, part-bad, part-end}
 use native.Mathlib.Omega.{arith}
 use Rattle.search.proofs.judge_part.Statement.{statement}
 use Rattle.search.proofs.judge_part.Tie as tie
-use Rattle.search.proofs.judge_part.Reads as reads
-use Rattle.search.proofs.judge_part.Lts as lts
-use Rattle.search.proofs.judge_entry.Reads as judge-entry-reads
-
--- `search::judge_part` meets its contract: what is left of the part, entry by entry. Assumes nothing.
 
 abbrev Inv-loop : tie.InvT-loop
 Inv-loop g reg entries q r begin past count lent₀ found₀ i₀ lent found i = PartLeft g reg entries q r begin past count lent₀ lent found i

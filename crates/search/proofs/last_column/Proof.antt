@@ -1,14 +1,9 @@
-use mathlib.Core.Path.{_≡_, ap, _∙_}
+-- `search::last_column` meets its contract: the lesser of two columns. Assumes nothing.
 use Rattle.rules.specs.Box.{lastColumn}
 use native.Mathlib.Omega.{arith}
 use borrow.Author.Needs.{needs}
 use Rattle.search.proofs.last_column.Statement.{statement}
 use Rattle.search.proofs.last_column.Tie as tie
-use Rattle.search.proofs.last_column.Reads as reads
-use Rattle.search.proofs.last_column.Lts as lts
-use Rattle.grid.proofs.column.Reads as column-reads
-
--- `search::last_column` meets its contract: the lesser of two columns. Assumes nothing.
 
 add-column : tie.Need-add-column
 add-column c = search needs

@@ -1,16 +1,10 @@
+-- `search::within` meets its contract: the square against r×r. Assumes nothing.
 use mathlib.Core.Path.{ap₂}
 use lib.Dec.{leb}
 use Rattle.rules.specs.Distance.{within, point}
-use native.Mathlib.Omega.{arith}
 use borrow.Author.Needs.{needs}
 use Rattle.search.proofs.within.Statement.{statement}
 use Rattle.search.proofs.within.Tie as tie
-use Rattle.search.proofs.within.Reads as reads
-use Rattle.search.proofs.within.Lts as lts
-use Rattle.grid.proofs.square.Reads as square-reads
-use Rattle.search.proofs.squared.Reads as squared-reads
-
--- `search::within` meets its contract: the square against r×r. Assumes nothing.
 
 square-requires : tie.Need-square-requires
 unfolding point
