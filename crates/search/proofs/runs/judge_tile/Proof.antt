@@ -1,10 +1,10 @@
--- `search::judge_tile` meets its contract: what is held back and what is left of the tile, class by class. Assumes nothing.
+-- `search::runs::judge_tile` meets its contract: what is held back and what is left of the tile, class by class. Assumes nothing.
 use Prim.Native.Nat.{_-_}
 use Rattle.rules.specs.Tables.{tables}
 use Rattle.search.proofs.Classes.{TileLeft, tile-all, tile-on, tile-bad, tile-end}
 use native.Mathlib.Omega.{arith}
-use Rattle.search.proofs.judge_tile.Statement.{statement}
-use Rattle.search.proofs.judge_tile.Tie as tie
+use Rattle.search.proofs.runs.judge_tile.Statement.{statement}
+use Rattle.search.proofs.runs.judge_tile.Tie as tie
 
 abbrev Inv-loop : tie.InvT-loop
 Inv-loop g reg starts entries q r tile mask count lent₀ held₀ class₀ lent held class = TileLeft g (tables reg starts entries) q r tile count lent₀ lent held class

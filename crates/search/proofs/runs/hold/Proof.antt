@@ -1,10 +1,10 @@
--- `search::hold` meets its contract: damaged ends, a run that joins, a part that is read. Assumes nothing.
+-- `search::runs::hold` meets its contract: damaged ends, a run that joins, a part that is read. Assumes nothing.
 use mathlib.Core.Path.{sym, _∙_}
 use Rattle.rules.specs.Tables.{tables, runStart, runEnd}
 use Rattle.search.proofs.Tile.{hold-damaged, hold-joined, hold-next}
 use borrow.Author.Needs.{needs}
-use Rattle.search.proofs.hold.Statement.{statement}
-use Rattle.search.proofs.hold.Tie as tie
+use Rattle.search.proofs.runs.hold.Statement.{statement}
+use Rattle.search.proofs.runs.hold.Tie as tie
 
 mul-wide : tie.Need-mul-wide
 mul-wide c = search needs

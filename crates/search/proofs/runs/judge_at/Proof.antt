@@ -1,4 +1,4 @@
--- `search::judge_at` meets its contract: the tile's square, then its allowed classes. Assumes nothing.
+-- `search::runs::judge_at` meets its contract: the tile's square, then its allowed classes. Assumes nothing.
 use borrow.Author.Tests.{not-true, not-false}
 use Rattle.rules.specs.Tables.{tables}
 use Rattle.rules.proofs.Good.{good-sizes}
@@ -6,8 +6,8 @@ use Rattle.search.proofs.Entries.{near-point}
 use Rattle.search.proofs.Tiles.{tile-far, tile-near, mask-allows}
 use native.Mathlib.Omega.{arith}
 use borrow.Author.Needs.{needs}
-use Rattle.search.proofs.judge_at.Statement.{statement}
-use Rattle.search.proofs.judge_at.Tie as tie
+use Rattle.search.proofs.runs.judge_at.Statement.{statement}
+use Rattle.search.proofs.runs.judge_at.Tie as tie
 
 cover-requires : tie.Need-cover-requires
 cover-requires c κs = let s = good-sizes (c .before .before .before .before .args .g) (c .before .before .before .before .pre .0 .placed .sizes) in omega arith

@@ -1,4 +1,4 @@
--- `search::hold_class` meets its contract: the mask says whether the class is allowed. Assumes nothing.
+-- `search::runs::hold_class` meets its contract: the mask says whether the class is allowed. Assumes nothing.
 use mathlib.Core.Path.{sym, _∙_}
 use Prim.Native.Nat.{_+_, _*_}
 use borrow.Author.Tests.{not-true, not-false}
@@ -6,8 +6,8 @@ use Rattle.rules.specs.Tables.{tables}
 use Rattle.search.proofs.Classes.{starts-stand, hold-none, hold-one}
 use native.Mathlib.Omega.{arith}
 use borrow.Author.Needs.{needs}
-use Rattle.search.proofs.hold_class.Statement.{statement}
-use Rattle.search.proofs.hold_class.Tie as tie
+use Rattle.search.proofs.runs.hold_class.Statement.{statement}
+use Rattle.search.proofs.runs.hold_class.Tie as tie
 
 is-on-requires : tie.Need-is-on-requires
 is-on-requires c κs = search needs

@@ -1,9 +1,9 @@
--- `search::judge_part` meets its contract: what is left of the part, entry by entry. Assumes nothing.
+-- `search::scan::judge_part` meets its contract: what is left of the part, entry by entry. Assumes nothing.
 use Prim.Native.Nat.{_-_}
 use Rattle.search.proofs.Part.{PartLeft, part-all, part-on, part-bad, part-end}
 use native.Mathlib.Omega.{arith}
-use Rattle.search.proofs.judge_part.Statement.{statement}
-use Rattle.search.proofs.judge_part.Tie as tie
+use Rattle.search.proofs.scan.judge_part.Statement.{statement}
+use Rattle.search.proofs.scan.judge_part.Tie as tie
 
 abbrev Inv-loop : tie.InvT-loop
 Inv-loop g reg entries q r begin past count lent₀ found₀ i₀ lent found i = PartLeft g reg entries q r begin past count lent₀ lent found i

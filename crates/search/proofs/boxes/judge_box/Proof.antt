@@ -1,4 +1,4 @@
--- `search::judge_box` meets its contract: what is left of the box, row by row. Assumes nothing.
+-- `search::boxes::judge_box` meets its contract: what is left of the box, row by row. Assumes nothing.
 use borrow.Author.Needs.{needs}
 use Prim.Native.Nat.{_+_, _-_}
 use Rattle.rules.specs.Distance.{point}
@@ -8,8 +8,8 @@ use Rattle.search.proofs.Entries.{near-point}
 use Rattle.search.proofs.Pieces.{PiecesLeft, pieces-all, pieces-on, pieces-bad, pieces-end}
 use Rattle.search.proofs.Tiles.{rowRuns, box-judged, columns-fit}
 use native.Mathlib.Omega.{arith}
-use Rattle.search.proofs.judge_box.Statement.{statement}
-use Rattle.search.proofs.judge_box.Tie as tie
+use Rattle.search.proofs.boxes.judge_box.Statement.{statement}
+use Rattle.search.proofs.boxes.judge_box.Tie as tie
 
 abbrev Inv-loop : tie.InvT-loop
 Inv-loop g reg starts entries q r lent₀ first last found₀ row₀ lent found row =

@@ -1,10 +1,10 @@
--- `search::within` meets its contract: the square against r×r. Assumes nothing.
+-- `search::scan::within` meets its contract: the square against r×r. Assumes nothing.
 use mathlib.Core.Path.{ap₂}
 use lib.Dec.{leb}
 use Rattle.rules.specs.Distance.{within, point}
 use borrow.Author.Needs.{needs}
-use Rattle.search.proofs.within.Statement.{statement}
-use Rattle.search.proofs.within.Tie as tie
+use Rattle.search.proofs.scan.within.Statement.{statement}
+use Rattle.search.proofs.scan.within.Tie as tie
 
 square-requires : tie.Need-square-requires
 unfolding point

@@ -1,11 +1,11 @@
--- `search::keep_hit` meets its contract: one number a hit, at its place. Assumes nothing.
+-- `search::scan::keep_hit` meets its contract: one number a hit, at its place. Assumes nothing.
 use mathlib.Core.Path.{refl, sym}
 use lib.Seq.{set-out}
 use Rattle.rules.specs.Search.{hitWrites}
 use Rattle.search.specs.Reading.{keepHit}
 use borrow.Author.Needs.{needs}
-use Rattle.search.proofs.keep_hit.Statement.{statement}
-use Rattle.search.proofs.keep_hit.Tie as tie
+use Rattle.search.proofs.scan.keep_hit.Statement.{statement}
+use Rattle.search.proofs.scan.keep_hit.Tie as tie
 
 mul-lent : tie.Need-mul-lent
 mul-lent c = search needs

@@ -1,11 +1,11 @@
--- `search::judge_entry` meets its contract: each test of the entry, and its distance, decide its outcome. Assumes nothing.
+-- `search::scan::judge_entry` meets its contract: each test of the entry, and its distance, decide its outcome. Assumes nothing.
 use mathlib.Core.Path.{refl, sym, _∙_}
 use borrow.Author.Tests.{not-true, not-false}
 use Rattle.search.proofs.Entries.{near-point, near-rect, bad-number, bad-x, bad-y, good-entry, tested-x, tested-y, tested-hit, entry-bad, entry-far, entry-hit}
 use native.Mathlib.Omega.{arith}
 use borrow.Author.Needs.{needs}
-use Rattle.search.proofs.judge_entry.Statement.{statement}
-use Rattle.search.proofs.judge_entry.Tie as tie
+use Rattle.search.proofs.scan.judge_entry.Statement.{statement}
+use Rattle.search.proofs.scan.judge_entry.Tie as tie
 
 wide-requires : tie.Need-wide-requires
 wide-requires c κs = search needs

@@ -1,4 +1,4 @@
--- `search::judge_row` meets its contract: what is left of the row, column by column. Assumes nothing.
+-- `search::boxes::judge_row` meets its contract: what is left of the row, column by column. Assumes nothing.
 use borrow.Author.Needs.{needs}
 use Prim.Native.Nat.{_+_, _-_}
 use Rattle.rules.specs.Distance.{point}
@@ -8,8 +8,8 @@ use Rattle.search.proofs.Entries.{near-point}
 use Rattle.search.proofs.Pieces.{PiecesLeft, pieces-all, pieces-on, pieces-bad, pieces-end}
 use Rattle.search.proofs.Tiles.{columnRuns, row-judged, columns-fit}
 use native.Mathlib.Omega.{arith}
-use Rattle.search.proofs.judge_row.Statement.{statement}
-use Rattle.search.proofs.judge_row.Tie as tie
+use Rattle.search.proofs.boxes.judge_row.Statement.{statement}
+use Rattle.search.proofs.boxes.judge_row.Tie as tie
 
 abbrev Inv-loop : tie.InvT-loop
 Inv-loop g reg starts entries q r row count lent₀ first last found₀ col₀ lent found col =
