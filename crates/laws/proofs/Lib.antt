@@ -23,3 +23,5 @@ pub mod Maps
 pub mod Pairs
 pub mod Rows
 pub mod Lengths
+pub mod Boxes
+pub mod Parts

@@ -4,6 +4,7 @@ pub mod Classes
 pub mod Report
 pub mod Built
 pub mod Visits
+pub mod Box
 pub mod Papers
 pub mod Unique
 pub mod JoinSpans
