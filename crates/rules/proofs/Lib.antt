@@ -7,3 +7,4 @@ pub mod Visits
 pub mod Papers
 pub mod Unique
 pub mod Starred
+pub mod Texts

@@ -11,4 +11,5 @@ pub mod Join
 pub mod Front
 pub mod Walk
 pub mod Waits
+pub mod Text
 pub mod Yard
