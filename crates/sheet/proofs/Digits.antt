@@ -1,6 +1,6 @@
 -- The digits that stand from a place on, one place after the other, and the number that they say. Assumes nothing.
 use mathlib.Core.Path.{_≡_, refl, sym, ap, _∙_}
-use mathlib.Core.Bool.{Bool, true, false, _&&_, _||_, not, cond}
+use mathlib.Core.Bool.{Bool, true, false, _||_, not, cond}
 use mathlib.Core.List.{List, [], _∷_}
 use Prim.Native.Nat.{ℕ, zero, suc, _+_, _-_, _*_, _≤_, _<_}
 use native.Mathlib.Numerals.{add-one}
@@ -9,7 +9,7 @@ use lib.Dec.{leb, eqb}
 use lib.ListN.{length, getD, drop, drop-of-length-le, length-drop}
 use lib.Seq.{drop-cons}
 use borrow.Author.Tests.{leb-true, le-leb, lt-leb, eq-eqb, ne-eqb}
-use Rattle.laws.proofs.Tests.{by-bool, by-le, clash, fst-true, snd-true}
+use Rattle.laws.proofs.Tests.{by-bool, by-le, fst-true, snd-true}
 use Rattle.rules.specs.Text.{isDigit, digits, value, isDecimal}
 use Rattle.sheet.specs.Places.{decimalAt}
 use Rattle.sheet.specs.declared.Number.the-variants.{Decimal, Bad}
@@ -143,12 +143,13 @@ module _ (text : List ℕ) (at : ℕ) where
   pub leading-zero : 1 < length (digits (drop at text)) → length (digits (drop at text)) ≤ 7 → getD text at 0 ≡ 48 → Bad ≡ decimalAt text at
   unfolding decimalAt isDecimal
   leading-zero h m z =
-      rw
-      (le-leb 1 (length (digits (drop at text))) (omega arith)
-      , le-leb (length (digits (drop at text))) 7 m
-      , ne-eqb (length (digits (drop at text))) 1 (λ e. omega arith)
-      , first-digit text at (omega arith)
-      , eq-eqb (getD text at 0) 48 z)
+      rw (
+        le-leb 1 (length (digits (drop at text))) (omega arith),
+        le-leb (length (digits (drop at text))) 7 m,
+        ne-eqb (length (digits (drop at text))) 1 (λ e. omega arith),
+        first-digit text at (omega arith),
+        eq-eqb (getD text at 0) 48 z,
+      )
 
   good-decimal : 1 ≤ length (digits (drop at text)) → length (digits (drop at text)) ≤ 7
       → (eqb (length (digits (drop at text))) 1 || not (eqb (getD (digits (drop at text)) 0 0) 48)) ≡ true
@@ -165,10 +166,11 @@ module _ (text : List ℕ) (at : ℕ) where
       → Decimal (value 0 (digits (drop at text))) (at + length (digits (drop at text))) ≡ decimalAt text at
   more-digits h m z =
       good-decimal (omega arith) m
-      (rw
-      (ne-eqb (length (digits (drop at text))) 1 (λ e. omega arith)
-      , first-digit text at (omega arith)
-      , ne-eqb (getD text at 0) 48 z))
+      (rw (
+        ne-eqb (length (digits (drop at text))) 1 (λ e. omega arith),
+        first-digit text at (omega arith),
+        ne-eqb (getD text at 0) 48 z,
+      ))
 
 fewer : (l : List ℕ) → length (digits l) ≤ length l
 unfolding digits

@@ -1,4 +1,4 @@
-use borrow.Author.Needs.{needs}
+-- `decimals::digits_at` meets its contract. The invariant: the digits passed and those still to count are all of them. Assumes nothing.
 use mathlib.Core.Path.{sym, _∙_}
 use Prim.Native.Nat.{_-_}
 use borrow.Author.Tests.{not-true, not-false}
@@ -7,10 +7,6 @@ use Rattle.sheet.proofs.Digits.{Counting, count-start, count-step, coun
 use native.Mathlib.Omega.{arith}
 use Rattle.sheet.proofs.decimals.digits_at.Statement.{statement}
 use Rattle.sheet.proofs.decimals.digits_at.Tie as tie
-use Rattle.sheet.proofs.decimals.digits_at.Reads as reads
-use Rattle.sheet.proofs.decimals.digits_at.Lts as lts
-use Rattle.sheet.proofs.decimals.is_digit.Reads as is-digit-reads
--- `decimals::digits_at` meets its contract. The invariant: the digits passed and those still to count are all of them. Assumes nothing.
 
 abbrev Inv-loop : tie.InvT-loop
 Inv-loop text at place₀ place = Counting text at place

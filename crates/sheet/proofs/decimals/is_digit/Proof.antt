@@ -1,11 +1,7 @@
-use borrow.Author.Needs.{needs}
+-- `decimals::is_digit` meets its contract. Assumes nothing.
 use Rattle.sheet.proofs.Digits.{low-byte, other-byte}
-use native.Mathlib.Omega.{arith}
 use Rattle.sheet.proofs.decimals.is_digit.Statement.{statement}
 use Rattle.sheet.proofs.decimals.is_digit.Tie as tie
-use Rattle.sheet.proofs.decimals.is_digit.Reads as reads
-use Rattle.sheet.proofs.decimals.is_digit.Lts as lts
--- `decimals::is_digit` meets its contract. Assumes nothing.
 
 returns : tie.Need-returns
 returns c = low-byte (c .before .args .byte) (c .if1 .taken)

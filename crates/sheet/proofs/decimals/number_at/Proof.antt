@@ -1,20 +1,13 @@
+-- `decimals::number_at` meets its contract. Assumes nothing.
 use borrow.Author.Needs.{needs}
-use mathlib.Core.Path.{_≡_, ap, ap₂, _∙_, sym}
+use mathlib.Core.Path.{ap, ap₂, _∙_}
 use mathlib.Core.Logic.{⊎-elim}
-use Prim.Native.Nat.{ℕ, _+_, _<_}
-use lib.ListN.{length, drop}
-use Rattle.rules.specs.Text.{digits, value}
-use Rattle.sheet.specs.declared.Number.{Number}
+use Prim.Native.Nat.{ℕ, _+_}
 use Rattle.sheet.specs.declared.Number.the-variants.{Decimal}
 use Rattle.sheet.proofs.Digits.{no-digits, many-digits, leading-zero, one-digit, more-digits, digits-within, some-digit}
 use native.Mathlib.Omega.{arith}
 use Rattle.sheet.proofs.decimals.number_at.Statement.{statement}
 use Rattle.sheet.proofs.decimals.number_at.Tie as tie
-use Rattle.sheet.proofs.decimals.number_at.Reads as reads
-use Rattle.sheet.proofs.decimals.number_at.Lts as lts
-use Rattle.sheet.proofs.decimals.digits_at.Reads as digits-at-reads
-use Rattle.sheet.proofs.decimals.value_at.Reads as value-at-reads
--- `decimals::number_at` meets its contract. Assumes nothing.
 
 digits-at-requires : tie.Need-digits-at-requires
 digits-at-requires c κs = search needs

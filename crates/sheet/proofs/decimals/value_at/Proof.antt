@@ -1,12 +1,9 @@
-use borrow.Author.Needs.{needs}
+-- `decimals::value_at` meets its contract. The invariant: the number so far, read on over the digits that are left, is the whole. Assumes nothing.
 use Prim.Native.Nat.{_-_}
 use Rattle.sheet.proofs.Digits.{Reading, reading-start, reading-byte, reading-small, reading-step, reading-end}
 use native.Mathlib.Omega.{arith}
 use Rattle.sheet.proofs.decimals.value_at.Statement.{statement}
 use Rattle.sheet.proofs.decimals.value_at.Tie as tie
-use Rattle.sheet.proofs.decimals.value_at.Reads as reads
-use Rattle.sheet.proofs.decimals.value_at.Lts as lts
--- `decimals::value_at` meets its contract. The invariant: the number so far, read on over the digits that are left, is the whole. Assumes nothing.
 
 abbrev Inv-loop : tie.InvT-loop
 Inv-loop text at count n₀ k₀ n k = Reading text at count n k
