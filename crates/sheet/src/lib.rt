@@ -1,5 +1,6 @@
 // The text register: judged, read and printed, on slices.
 mod decimals;
+mod lines;
 mod print;
 
 pub use decimals::number_at;
@@ -13,4 +14,24 @@ pub use print::put_refusal;
 pub enum Number {
     Decimal(u32, usize),
     Bad,
+}
+
+// The key of a line; Start stands before the first.
+pub enum Key {
+    Start,
+    Tiles,
+    Side,
+    Xlo,
+    Ylo,
+    Xhi,
+    Yhi,
+    X,
+    Y,
+    R,
+}
+
+// A bad line, or its key, its number and the place behind it.
+pub enum Line {
+    Bad,
+    Says(Key, u32, usize),
 }
