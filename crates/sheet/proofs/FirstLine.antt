@@ -1,17 +1,15 @@
 -- The first line of a text, and what is read at its place: the same as the definition reads from the line itself. Assumes nothing.
-use mathlib.Core.Path.{_≡_, refl, sym, ap, ap₂, _∙_}
+use mathlib.Core.Path.{_≡_, refl, sym, ap, _∙_}
 use mathlib.Core.Bool.{Bool, true, false, _&&_, not, cond}
 use mathlib.Core.List.{List, [], _∷_}
-use Prim.Native.Nat.{ℕ, zero, suc, _+_, _≤_, _<_}
-use native.Mathlib.Numerals.{add-one}
+use Prim.Native.Nat.{ℕ, suc}
 use native.Mathlib.Omega.{arith}
 use lib.Dec.{eqb}
 use lib.ListN.{length, getD, drop}
-use lib.Seq.{drop-drop, getD-drop}
-use borrow.Author.Tests.{eqb-true, eqb-false, eq-eqb, ne-eqb, not-true}
+use borrow.Author.Tests.{eqb-true, eqb-false, ne-eqb, not-true}
 use Rattle.laws.specs.Lists.{same, all}
 use Rattle.laws.proofs.Tests.{by-bool, fst-true, snd-true, clash}
-use Rattle.rules.specs.Text.{lf, onto, lines, isDigit, digits, afterDigits, value, isDecimal, isNumber, word, beginsWith, numbered, read, Key, Start, Tiles, Side, Xlo, Ylo, Xhi, Yhi, X, Y, R, Line, bad, says}
+use Rattle.rules.specs.Text.{lf, onto, lines, isDigit, digits, afterDigits, word, beginsWith, Key, Start, Tiles, Side, Xlo, Ylo, Xhi, Yhi, X, Y, R}
 use Rattle.sheet.proofs.Digits.{digit-range}
 
 -- ---- the first line, and what comes behind it

@@ -1,7 +1,7 @@
 -- What is read at a place is what the definition reads from the first line there, and the place behind it is where the next line begins.
 -- Assumes nothing.
 use mathlib.Core.Path.{_≡_, refl, sym, ap, _∙_}
-use mathlib.Core.Bool.{Bool, true, false, _&&_, cond}
+use mathlib.Core.Bool.{Bool, true, _&&_}
 use mathlib.Core.List.{List, [], _∷_}
 use Prim.Native.Nat.{ℕ, suc, _+_, _≤_, _<_}
 use native.Mathlib.Nat.{not-suc-le-zero}
@@ -10,13 +10,13 @@ use lib.Dec.{eqb, leb}
 use lib.ListN.{length, getD, drop, List·getD-eq-default}
 use lib.Seq.{drop-drop, getD-drop, drop-cons}
 use borrow.Author.Tests.{leb-true, eqb-true}
-use Rattle.laws.specs.Lists.{same, all}
-use Rattle.laws.proofs.Tests.{by-bool, by-le, fst-true, snd-true, clash}
+use Rattle.laws.specs.Lists.{all}
+use Rattle.laws.proofs.Tests.{by-bool, by-le, fst-true, snd-true}
 use Rattle.rules.specs.Text as text
-use Rattle.rules.specs.Text.{lf, lines, digits, afterDigits, value, isDecimal, isNumber, word, follow, beginsWith, numbered, read, bad, says, Told, stopped, more, heard, tells}
+use Rattle.rules.specs.Text.{lf, lines, digits, afterDigits, value, isDecimal, isNumber, word, follow, beginsWith, numbered, read, bad, says, stopped, more, heard, tells}
 use Rattle.rules.specs.Refusals.{refuse}
 use Rattle.rules.specs.declared.Refusal.the-variants.{Text}
-use Rattle.sheet.specs.Places.{keyOf, coded, decimalAt, ended, numberedAt, readAt}
+use Rattle.sheet.specs.Places.{keyOf, coded, decimalAt, numberedAt, readAt}
 use Rattle.sheet.specs.declared.Number.the-variants as number
 use Rattle.sheet.specs.declared.Key.{Key}
 use Rattle.sheet.specs.declared.Line.{Line}

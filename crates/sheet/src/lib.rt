@@ -1,14 +1,17 @@
 // The text register: judged, read and printed, on slices.
 mod decimals;
+mod judging;
 mod lines;
 mod print;
 
 pub use decimals::number_at;
+pub use judging::judge;
 pub use print::put_decimal;
 pub use print::put_found;
 pub use print::put_hit;
 pub use print::put_line;
 pub use print::put_refusal;
+use rules::Refusal;
 
 // A decimal: its number, and the place behind its digits.
 pub enum Number {
@@ -34,4 +37,10 @@ pub enum Key {
 pub enum Line {
     Bad,
     Says(Key, u32, usize),
+}
+
+// A text judged: how many numbers it says and how many footprints they have, or why it is refused.
+pub enum Sheet {
+    Good(usize, u32),
+    Refused(Refusal),
 }
