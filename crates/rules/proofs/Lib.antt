@@ -8,3 +8,5 @@ pub mod Papers
 pub mod Unique
 pub mod Starred
 pub mod Texts
+pub mod Counted
+pub mod Decimals

@@ -10,6 +10,7 @@ use lib.ListN.{length, getD, drop, drop-of-length-le, length-drop}
 use lib.Seq.{drop-cons}
 use borrow.Author.Tests.{leb-true, le-leb, lt-leb, eq-eqb, ne-eqb}
 use Rattle.laws.proofs.Tests.{by-bool, by-le, fst-true, snd-true}
+use Rattle.rules.proofs.Decimals.{tens}
 use Rattle.rules.specs.Text.{isDigit, digits, value, isDecimal}
 use Rattle.sheet.specs.Places.{decimalAt}
 use Rattle.sheet.specs.declared.Number.the-variants.{Decimal, Bad}
@@ -68,11 +69,6 @@ pub count-stop : (text : List ℕ) (at place : ℕ) → Counting text at place �
 count-stop text at place i e = omega (arith, ap length e)
 
 -- ---- the number that they say
-
--- 10 to the power of k
-abbrev pub tens : ℕ → ℕ
-tens zero = 1
-tens (suc k) = 10 * tens k
 
 tens-rise : (k m : ℕ) → k ≤ m → tens k ≤ tens m
 tens-rise zero zero h = omega arith

@@ -21,7 +21,8 @@ use Rattle.sheet.specs.declared.Line.{Line}
 use Rattle.sheet.specs.declared.Line.the-variants.{Bad, Says}
 use Rattle.sheet.specs.declared.Sheet.{Sheet}
 use Rattle.sheet.specs.declared.Sheet.the-variants.{Good, Refused}
-use Rattle.sheet.proofs.Reading.{follow-wordy, read-behind, tells-bad, tells-more}
+use Rattle.rules.proofs.Counted.{follow-wordy}
+use Rattle.sheet.proofs.Reading.{read-behind, tells-bad, tells-more}
 
 -- numbers and footprints told before, in front of what is told behind
 abbrev pub before : List ℕ → ℕ → Told → Told

@@ -1,14 +1,14 @@
 -- Bytes put one behind the other, the decimal of a number digit by digit, and what stands in an output that has room. Assumes nothing.
 use mathlib.Core.Path.{_≡_, refl, sym, ap, _∙_}
 use mathlib.Core.List.{List, [], _∷_, _++_, append-nil}
-use Prim.Native.Nat.{ℕ, zero, suc, _+_, _/_, _%_, _≤_, _<_}
+use Prim.Native.Nat.{ℕ, suc, _+_, _/_, _%_, _≤_, _<_}
 use native.Mathlib.Numerals.{add-one}
 use native.Mathlib.Omega.{arith}
 use lib.ListN.{length, getD, drop, set, length-set, drop-of-length-le}
 use lib.Seq.{drop-cons, sets}
 use borrow.Author.Tests.{lt-ltb, le-ltb, eq-eqb, ne-eqb}
-use Rattle.laws.proofs.Tests.{by-le}
-use Rattle.rules.specs.Text.{lf, spelled, decimal, lineOf, hitText, noWord, squareWord, refusedWord, lineWord, refusalText}
+use Rattle.rules.proofs.Decimals.{decimal-one, decimal-more}
+use Rattle.rules.specs.Text.{lf, decimal, lineOf, hitText, noWord, squareWord, refusedWord, lineWord, refusalText}
 use Rattle.rules.specs.Refusals.{Paper}
 use Rattle.sheet.specs.Put.{Output, put, puts}
 
@@ -46,24 +46,6 @@ unfolding puts
 word-end word i o h = rw (drop-of-length-le word h)
 
 -- ---- a decimal, digit by digit
-
-spelled-enough : (j k n : ℕ) → n < j → n < k → spelled j n ≡ spelled k n
-unfolding spelled
-spelled-enough zero k n h g = absurd (omega arith)
-spelled-enough (suc j) zero n h g = absurd (omega arith)
-spelled-enough (suc j) (suc k) n h g =
-    by-le 10 n
-    (λ e. rw (le-ltb n 10 e) (ap (λ (l : List ℕ). l ++ ((48 + n % 10) ∷ [])) (spelled-enough j k (n / 10) (omega arith) (omega arith))))
-    (λ e. rw (lt-ltb n 10 e))
-
-pub decimal-one : (n : ℕ) → n < 10 → decimal n ≡ (48 + n) ∷ []
-unfolding decimal spelled
-decimal-one n h = rw (lt-ltb n 10 h)
-
-pub decimal-more : (n : ℕ) → 10 ≤ n → decimal n ≡ decimal (n / 10) ++ ((48 + n % 10) ∷ [])
-unfolding decimal spelled
-decimal-more n h =
-    rw (le-ltb n 10 h) (ap (λ (l : List ℕ). l ++ ((48 + n % 10) ∷ [])) (spelled-enough n (suc (n / 10)) (n / 10) (omega arith) (omega arith)))
 
 pub put-digit : (n : ℕ) (o p : Output) → n < 10 → p ≡ put (48 + n) o → p ≡ puts (decimal n) o
 put-digit n o p h e = e ∙ sym (puts-one (48 + n) o) ∙ sym (ap (λ (l : List ℕ). puts l o) (decimal-one n h))

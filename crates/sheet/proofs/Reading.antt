@@ -12,6 +12,7 @@ use lib.Seq.{drop-drop, getD-drop, drop-cons}
 use borrow.Author.Tests.{leb-true, eqb-true}
 use Rattle.laws.specs.Lists.{all}
 use Rattle.laws.proofs.Tests.{by-bool, by-le, fst-true, snd-true}
+use Rattle.rules.proofs.Counted.{wordy, follow-wordy}
 use Rattle.rules.specs.Text as text
 use Rattle.rules.specs.Text.{lf, lines, digits, afterDigits, value, isDecimal, isNumber, word, follow, beginsWith, numbered, read, bad, says, stopped, more, heard, tells}
 use Rattle.rules.specs.Refusals.{refuse}
@@ -100,23 +101,6 @@ module _ (k : text.Key) (l : List ℕ) (at : ℕ) where
       (λ e. never j n place (rw e at h))
 
 -- ---- a line under one of some keys
-
--- a key's word has two bytes or more
-unfoldable pub wordy : text.Key → Bool
-wordy k = leb 2 (length (word k))
-
-pub follow-wordy : (k : text.Key) → all wordy (follow k) ≡ true
-unfolding follow wordy word
-follow-wordy text.Start = refl
-follow-wordy text.Tiles = refl
-follow-wordy text.Side = refl
-follow-wordy text.Xlo = refl
-follow-wordy text.Ylo = refl
-follow-wordy text.Xhi = refl
-follow-wordy text.Yhi = refl
-follow-wordy text.X = refl
-follow-wordy text.Y = refl
-follow-wordy text.R = refl
 
 pub read-agrees : (ks : List text.Key) (l : List ℕ) (at : ℕ) → read ks (firstLine (drop at l)) ≡ lineSaid (readAt ks l at)
 unfolding read readAt lineSaid

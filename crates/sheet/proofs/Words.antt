@@ -1,7 +1,7 @@
 -- Words and lines at a place, step by step. Assumes nothing.
 use mathlib.Core.Path.{_≡_, refl, sym, ap, _∙_}
 use mathlib.Core.Bool.{Bool, true, false, cond}
-use mathlib.Core.List.{List, [], _∷_}
+use mathlib.Core.List.{List, _∷_}
 use Prim.Native.Nat.{ℕ, _+_, _-_, _≤_, _<_}
 use native.Mathlib.Numerals.{add-one}
 use native.Mathlib.Omega.{arith}
@@ -9,7 +9,8 @@ use lib.Dec.{eqb}
 use lib.ListN.{length, getD, drop, drop-of-length-le, length-drop, List·getD-eq-default}
 use lib.Seq.{drop-cons}
 use borrow.Author.Tests.{eq-eqb, ne-eqb}
-use Rattle.laws.proofs.Tests.{by-bool, snd-true, clash}
+use Rattle.laws.proofs.Tests.{by-bool}
+use Rattle.rules.proofs.Counted.{word-fits}
 use Rattle.rules.specs.Text as text
 use Rattle.rules.specs.Text.{lf, word, beginsWith}
 use Rattle.sheet.specs.Places.{keyOf, coded, wordAt, decimalAt, ended, numberedAt, readAt}
@@ -77,13 +78,6 @@ word-none w l at e = rw e
 pub word-all : (w l : List ℕ) (at i : ℕ) → i ≡ length w → beginsWith w (drop at l) ≡ true → i ≡ wordAt w l at
 unfolding wordAt
 word-all w l at i h e = h ∙ rw e
-
--- a word that stands in some bytes is no longer than they are
-word-fits : (w l : List ℕ) → beginsWith w l ≡ true → length w ≤ length l
-unfolding beginsWith
-word-fits [] l e = omega arith
-word-fits (a ∷ w) [] e = clash (sym e)
-word-fits (a ∷ w) (b ∷ l) e = omega (arith, word-fits w l (snd-true (eqb a b) (beginsWith w l) e))
 
 -- ---- lines
 
