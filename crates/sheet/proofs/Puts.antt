@@ -9,6 +9,7 @@ use lib.Seq.{drop-cons, sets}
 use borrow.Author.Tests.{lt-ltb, le-ltb, eq-eqb, ne-eqb}
 use Rattle.rules.proofs.Decimals.{decimal-one, decimal-more}
 use Rattle.rules.specs.Text.{lf, decimal, lineOf, hitText, noWord, squareWord, refusedWord, lineWord, refusalText}
+use Rattle.laws.specs.Lists.{each}
 use Rattle.rules.specs.Refusals.{Paper}
 use Rattle.sheet.specs.Put.{Output, put, puts}
 
@@ -77,6 +78,19 @@ pub put-refused-line : (p : Paper) (k v : ℕ) (o a b : Output) → k ≡ p .num
 unfolding refusalText
 put-refused-line p k v o a b e z y f h =
     put-both (lineOf refusedWord k) (lineOf lineWord v) o a b f h ∙ rw (e, y, eq-eqb (p .number) 8 (sym e ∙ z))
+
+-- ---- the texts of many, one behind the other
+
+pub each-step : (f : ℕ → List ℕ) (l : List ℕ) (i : ℕ) (o p : Output) → i < length l → p ≡ puts (f (getD l i 0)) o
+    → puts (each f (drop i l)) o ≡ puts (each f (drop (i + 1) l)) p
+each-step f l i o p h e =
+    ap (λ (m : List ℕ). puts (each f m) o) (drop-cons l i 0 h)
+    ∙ puts-append (f (getD l i 0)) (each f (drop (suc i) l)) o
+    ∙ rw (e, add-one)
+
+pub each-end : (f : ℕ → List ℕ) (l : List ℕ) (i : ℕ) (o : Output) → length l ≤ i → puts (each f (drop i l)) o ≡ o
+unfolding puts
+each-end f l i o h = rw (drop-of-length-le l h)
 
 -- ---- an output that has room
 
