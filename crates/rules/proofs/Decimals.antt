@@ -4,9 +4,9 @@ use mathlib.Core.Bool.{true, false, _||_, not, or-true}
 use mathlib.Core.List.{List, [], _∷_, _++_}
 use Prim.Native.Nat.{ℕ, zero, suc, _+_, _-_, _*_, _/_, _%_, _≤_, _<_}
 use native.Mathlib.Omega.{arith}
-use lib.Dec.{eqb}
+use lib.Dec.{leb, eqb}
 use lib.ListN.{length, getD, length-append, List·getD-append}
-use borrow.Author.Tests.{lt-ltb, le-ltb, le-leb, eq-eqb, ne-eqb}
+use borrow.Author.Tests.{lt-ltb, le-ltb, leb-true, le-leb, eq-eqb, ne-eqb}
 use Rattle.laws.specs.Lists.{all}
 use Rattle.laws.proofs.Tests.{by-le, fst-true, snd-true, both-true}
 use Rattle.rules.specs.Text.{lf, isDigit, digits, afterDigits, value, isDecimal, isNumber, spelled, decimal}
@@ -64,12 +64,21 @@ all-last b [] h e = rw e
 all-last b (a ∷ l) h e =
     both-true (fst-true (isDigit a) (all isDigit l) h) (all-last b l (snd-true (isDigit a) (all isDigit l) h) e)
 
-decimal-digits : (n : ℕ) → all isDigit (decimal n) ≡ true
+pub decimal-digits : (n : ℕ) → all isDigit (decimal n) ≡ true
 decimal-digits n =
     by-digits (λ (m : ℕ) (l : List ℕ). all isDigit l ≡ true)
     (λ m h. both-true (digit m h) refl)
     (λ m l h e. all-last (48 + m % 10) l e (digit (m % 10) (omega arith)))
     (suc n) n (omega arith)
+
+-- ---- a digit is no LF
+
+pub digit-range : (b : ℕ) → isDigit b ≡ true → (48 ≤ b) × (b ≤ 57)
+unfolding isDigit
+digit-range b e = (leb-true 48 b (fst-true (leb 48 b) (leb b 57) e), leb-true b 57 (snd-true (leb 48 b) (leb b 57) e))
+
+pub digit-not-lf : (b : ℕ) → isDigit b ≡ true → eqb b lf ≡ false
+digit-not-lf b e = ne-eqb b lf (λ z. let r = digit-range b e in omega arith)
 
 -- ---- how many digits
 
@@ -77,6 +86,12 @@ decimal-digits n =
 abbrev pub tens : ℕ → ℕ
 tens zero = 1
 tens (suc k) = 10 * tens k
+
+pub tens-rise : (k m : ℕ) → k ≤ m → tens k ≤ tens m
+tens-rise zero zero h = omega arith
+tens-rise zero (suc m) h = omega (arith, tens-rise zero m (omega arith))
+tens-rise (suc k) zero h = absurd (omega arith)
+tens-rise (suc k) (suc m) h = omega (arith, tens-rise k m (omega arith))
 
 pub decimal-some : (n : ℕ) → 1 ≤ length (decimal n)
 decimal-some n =
@@ -120,7 +135,7 @@ decimal-good n h =
 -- ---- what is printed is read
 
 -- digits in front of another byte are all that is read
-digits-before : (l m : List ℕ) (b : ℕ) → all isDigit l ≡ true → isDigit b ≡ false
+pub digits-before : (l m : List ℕ) (b : ℕ) → all isDigit l ≡ true → isDigit b ≡ false
     → (digits (l ++ (b ∷ m)) ≡ l) × (afterDigits (l ++ (b ∷ m)) ≡ b ∷ m)
 unfolding digits afterDigits
 digits-before [] m b h e = (rw e, rw e)
@@ -129,7 +144,7 @@ digits-before (a ∷ l) m b h e =
     let d = fst-true (isDigit a) (all isDigit l) h in
     (rw d (ap (_∷_ a) (r .0)), rw d (r .1))
 
-lf-no-digit : isDigit lf ≡ false
+pub lf-no-digit : isDigit lf ≡ false
 unfolding isDigit
 lf-no-digit = refl
 

@@ -10,3 +10,4 @@ pub mod Starred
 pub mod Texts
 pub mod Counted
 pub mod Decimals
+pub mod Written

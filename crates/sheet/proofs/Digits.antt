@@ -2,15 +2,15 @@
 use mathlib.Core.Path.{_≡_, refl, sym, ap, _∙_}
 use mathlib.Core.Bool.{Bool, true, false, _||_, not, cond}
 use mathlib.Core.List.{List, [], _∷_}
-use Prim.Native.Nat.{ℕ, zero, suc, _+_, _-_, _*_, _≤_, _<_}
+use Prim.Native.Nat.{ℕ, suc, _+_, _-_, _*_, _≤_, _<_}
 use native.Mathlib.Numerals.{add-one}
 use native.Mathlib.Omega.{arith}
 use lib.Dec.{leb, eqb}
 use lib.ListN.{length, getD, drop, drop-of-length-le, length-drop}
 use lib.Seq.{drop-cons}
-use borrow.Author.Tests.{leb-true, le-leb, lt-leb, eq-eqb, ne-eqb}
-use Rattle.laws.proofs.Tests.{by-bool, by-le, fst-true, snd-true}
-use Rattle.rules.proofs.Decimals.{tens}
+use borrow.Author.Tests.{le-leb, lt-leb, eq-eqb, ne-eqb}
+use Rattle.laws.proofs.Tests.{by-bool, by-le}
+use Rattle.rules.proofs.Decimals.{digit-range, tens, tens-rise}
 use Rattle.rules.specs.Text.{isDigit, digits, value, isDecimal}
 use Rattle.sheet.specs.Places.{decimalAt}
 use Rattle.sheet.specs.declared.Number.the-variants.{Decimal, Bad}
@@ -22,10 +22,6 @@ low-byte b h = simp lt-leb
 pub other-byte : (b : ℕ) → 48 ≤ b → leb b 57 ≡ isDigit b
 unfolding isDigit
 other-byte b h = simp le-leb
-
-pub digit-range : (b : ℕ) → isDigit b ≡ true → (48 ≤ b) × (b ≤ 57)
-unfolding isDigit
-digit-range b e = (leb-true 48 b (fst-true (leb 48 b) (leb b 57) e), leb-true b 57 (snd-true (leb 48 b) (leb b 57) e))
 
 module _ (text : List ℕ) (i : ℕ) where
   pub digits-step : i < length text → isDigit (getD text i 0) ≡ true → digits (drop i text) ≡ getD text i 0 ∷ digits (drop (i + 1) text)
@@ -69,12 +65,6 @@ pub count-stop : (text : List ℕ) (at place : ℕ) → Counting text at place �
 count-stop text at place i e = omega (arith, ap length e)
 
 -- ---- the number that they say
-
-tens-rise : (k m : ℕ) → k ≤ m → tens k ≤ tens m
-tens-rise zero zero h = omega arith
-tens-rise zero (suc m) h = omega (arith, tens-rise zero m (omega arith))
-tens-rise (suc k) zero h = absurd (omega arith)
-tens-rise (suc k) (suc m) h = omega (arith, tens-rise k m (omega arith))
 
 -- n says the first k of the digits from a place on; the others are still to read
 pub record Reading (text : List ℕ) (at count n k : ℕ) : Type 0 where

@@ -1,16 +1,16 @@
 -- The first line of a text, and what is read at its place: the same as the definition reads from the line itself. Assumes nothing.
 use mathlib.Core.Path.{_≡_, refl, sym, ap, _∙_}
-use mathlib.Core.Bool.{Bool, true, false, _&&_, not, cond}
+use mathlib.Core.Bool.{Bool, true, false, _&&_, cond}
 use mathlib.Core.List.{List, [], _∷_}
 use Prim.Native.Nat.{ℕ, suc}
-use native.Mathlib.Omega.{arith}
 use lib.Dec.{eqb}
 use lib.ListN.{length, getD, drop}
-use borrow.Author.Tests.{eqb-true, eqb-false, ne-eqb, not-true}
-use Rattle.laws.specs.Lists.{same, all}
+use borrow.Author.Tests.{eqb-true, eqb-false, ne-eqb}
+use Rattle.laws.specs.Lists.{same}
 use Rattle.laws.proofs.Tests.{by-bool, fst-true, snd-true, clash}
-use Rattle.rules.specs.Text.{lf, onto, lines, isDigit, digits, afterDigits, word, beginsWith, Key, Start, Tiles, Side, Xlo, Ylo, Xhi, Yhi, X, Y, R}
-use Rattle.sheet.proofs.Digits.{digit-range}
+use Rattle.rules.specs.Text.{lf, onto, lines, isDigit, digits, afterDigits, beginsWith}
+use Rattle.rules.proofs.Decimals.{digit-not-lf}
+use Rattle.rules.proofs.Written.{oneLine, not-lf}
 
 -- ---- the first line, and what comes behind it
 
@@ -29,23 +29,6 @@ lines-first b (c ∷ l) = by-bool (eqb b lf) (λ e. rw e) (λ e. rw e (ap (onto 
 
 -- ---- a word without LF
 
--- the word has no LF
-unfoldable pub oneLine : List ℕ → Bool
-oneLine w = all (λ b. not (eqb b lf)) w
-
-pub word-line : (k : Key) → oneLine (word k) ≡ true
-unfolding oneLine word
-word-line Start = refl
-word-line Tiles = refl
-word-line Side = refl
-word-line Xlo = refl
-word-line Ylo = refl
-word-line Xhi = refl
-word-line Yhi = refl
-word-line X = refl
-word-line Y = refl
-word-line R = refl
-
 -- a byte that is not LF stays in the first line
 firstLine-other : (b : ℕ) (l : List ℕ) → eqb b lf ≡ false → firstLine (b ∷ l) ≡ b ∷ firstLine l
 unfolding firstLine
@@ -55,38 +38,31 @@ behindLine-other : (b : ℕ) (l : List ℕ) → eqb b lf ≡ false → behindLin
 unfolding behindLine
 behindLine-other b l e = rw e
 
-not-lf : (b : ℕ) → not (eqb b lf) ≡ true → eqb b lf ≡ false
-not-lf b e = not-true (eqb b lf) e
-
 -- a word without LF begins the text where it begins the first line
 pub word-first : (w l : List ℕ) → oneLine w ≡ true → beginsWith w (firstLine l) ≡ beginsWith w l
-unfolding oneLine beginsWith firstLine
+unfolding beginsWith firstLine
 word-first [] l h = refl
 word-first (a ∷ w) [] h = refl
 word-first (a ∷ w) (b ∷ l) h =
+    let n = not-lf a w h in
     by-bool (eqb b lf)
-    (λ e.
-    let n : eqb a b ≡ false = ne-eqb a b (λ z. eqb-false a lf (not-lf a (fst-true (not (eqb a lf)) (all (λ c. not (eqb c lf)) w) h)) (z ∙ eqb-true b lf e)) in
-    rw (e, n))
-    (λ e. rw e (ap (λ (t : Bool). eqb a b && t) (word-first w l (snd-true (not (eqb a lf)) (all (λ c. not (eqb c lf)) w) h))))
+    (λ e. rw (e, ne-eqb a b (λ z. eqb-false a lf (n .0) (z ∙ eqb-true b lf e))))
+    (λ e. rw e (ap (λ (t : Bool). eqb a b && t) (word-first w l (n .1))))
 
 -- behind such a word the line goes on as the text does
 pub word-behind : (w l : List ℕ) → oneLine w ≡ true → beginsWith w l ≡ true
     → (drop (length w) (firstLine l) ≡ firstLine (drop (length w) l)) × (behindLine l ≡ behindLine (drop (length w) l))
-unfolding oneLine beginsWith
+unfolding beginsWith
 word-behind [] l h e = (refl, refl)
 word-behind (a ∷ w) [] h e = clash (sym e)
 word-behind (a ∷ w) (b ∷ l) h e =
-    let n : eqb a lf ≡ false = not-lf a (fst-true (not (eqb a lf)) (all (λ c. not (eqb c lf)) w) h) in
+    let n = not-lf a w h in
     let z : a ≡ b = eqb-true a b (fst-true (eqb a b) (beginsWith w l) e) in
-    let m : eqb b lf ≡ false = sym (ap (λ (c : ℕ). eqb c lf) z) ∙ n in
-    let r = word-behind w l (snd-true (not (eqb a lf)) (all (λ c. not (eqb c lf)) w) h) (snd-true (eqb a b) (beginsWith w l) e) in
+    let m : eqb b lf ≡ false = sym (ap (λ (c : ℕ). eqb c lf) z) ∙ n .0 in
+    let r = word-behind w l (n .1) (snd-true (eqb a b) (beginsWith w l) e) in
     (ap (drop (suc (length w))) (firstLine-other b l m) ∙ r .0, behindLine-other b l m ∙ r .1)
 
 -- ---- digits
-
-digit-not-lf : (b : ℕ) → isDigit b ≡ true → eqb b lf ≡ false
-digit-not-lf b e = ne-eqb b lf (λ z. let r = digit-range b e in omega arith)
 
 pub digits-first : (l : List ℕ) → digits (firstLine l) ≡ digits l
 unfolding digits firstLine

@@ -12,6 +12,7 @@ use lib.Seq.{drop-drop, getD-drop, drop-cons}
 use borrow.Author.Tests.{leb-true, eqb-true}
 use Rattle.laws.specs.Lists.{all}
 use Rattle.laws.proofs.Tests.{by-bool, by-le, fst-true, snd-true}
+use Rattle.rules.proofs.Written.{word-line}
 use Rattle.rules.proofs.Counted.{wordy, follow-wordy}
 use Rattle.rules.specs.Text as text
 use Rattle.rules.specs.Text.{lf, lines, digits, afterDigits, value, isDecimal, isNumber, word, follow, beginsWith, numbered, read, bad, says, stopped, more, heard, tells}
@@ -23,7 +24,7 @@ use Rattle.sheet.specs.declared.Key.{Key}
 use Rattle.sheet.specs.declared.Line.{Line}
 use Rattle.sheet.specs.declared.Line.the-variants.{Bad, Says}
 use Rattle.sheet.proofs.Words.{key-coded}
-use Rattle.sheet.proofs.FirstLine.{firstLine, behindLine, lines-first, word-line, word-first, word-behind, digits-first, afterDigits-first, behindLine-digits, afterDigits-drop, lf-first, behindLine-lf}
+use Rattle.sheet.proofs.FirstLine.{firstLine, behindLine, lines-first, word-first, word-behind, digits-first, afterDigits-first, behindLine-digits, afterDigits-drop, lf-first, behindLine-lf}
 
 -- what a line of the code says
 unfoldable pub lineSaid : Line → text.Line
