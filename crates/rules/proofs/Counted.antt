@@ -17,11 +17,11 @@ use Rattle.rules.specs.declared.Refusal.{Refusal}
 use Rattle.rules.specs.declared.Refusal.the-variants.{Text}
 
 -- a refusal is no pass
-never : {A : Type 0} (r : Refusal) → refuse r ≡ pass → A
+pub never : {A : Type 0} (r : Refusal) → refuse r ≡ pass → A
 never r e = let z : _≡_ {A = ℕ} 0 1 = cc in absurd (not-suc-le-zero {n = 0} (omega arith))
 
 -- a bad line says nothing
-mute : {A : Type 0} (k : Key) (n : ℕ) → bad ≡ says k n → A
+pub mute : {A : Type 0} (k : Key) (n : ℕ) → bad ≡ says k n → A
 mute k n e = let z : _≡_ {A = ℕ} 0 1 = cc in absurd (not-suc-le-zero {n = 0} (omega arith))
 
 -- ---- the key of a line is one of those that may follow

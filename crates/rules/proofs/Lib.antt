@@ -11,3 +11,4 @@ pub mod Texts
 pub mod Counted
 pub mod Decimals
 pub mod Written
+pub mod Grammar

@@ -1,20 +1,18 @@
--- The grammar of a text the other way round: a text is good exactly if it is written line by line in an order that the paper allows,
--- and it says the numbers that were written. Assumes nothing.
-use mathlib.Core.Path.{_≡_, refl, sym, ap, ap₂, _∙_}
-use mathlib.Core.Bool.{Bool, true, false, _&&_, _||_, not, cond}
-use mathlib.Core.List.{List, [], _∷_, _++_, map, append-assoc, List·Memᴰ, List·Memᴰ·head, List·Memᴰ·tail, List·Memᴰ·cases-cons, List·Memᴰ·not-nil}
+-- A text that is written line by line in an order that the paper allows: each line is one line, is read under its key, and says its number.
+-- Assumes nothing.
+use mathlib.Core.Path.{_≡_, refl, sym, ap, _∙_}
+use mathlib.Core.Bool.{Bool, true, false, _||_, not}
+use mathlib.Core.List.{List, [], _∷_, _++_, map, append-assoc, List·Memᴰ, List·Memᴰ·head, List·Memᴰ·cases-cons, List·Memᴰ·not-nil}
 use mathlib.Core.Logic.{⊎-elim}
-use Prim.Native.Nat.{ℕ, zero, suc, _+_, _-_, _*_, _/_, _%_, _≤_, _<_}
-use native.Mathlib.Omega.{arith}
-use lib.Dec.{leb, eqb}
-use lib.ListN.{length, getD, drop}
-use borrow.Author.Tests.{eqb-true, eq-eqb, ne-eqb, leb-true, not-true}
-use Rattle.laws.specs.Lists.{all, each, same, total}
+use Prim.Native.Nat.{ℕ, suc, _+_, _-_, _<_}
+use lib.Dec.{eqb}
+use lib.ListN.{length, drop}
+use borrow.Author.Tests.{eq-eqb, not-true}
+use Rattle.laws.specs.Lists.{all, each, total}
 use Rattle.laws.proofs.Tests.{by-bool, fst-true, snd-true, both-true, clash}
-use Rattle.laws.proofs.Same.{same-true}
-use Rattle.rules.specs.Refusals.{pass, refuse, judge}
-use Rattle.rules.specs.Text.{Key, Start, Tiles, Side, Xlo, Ylo, Xhi, Yhi, X, Y, R, lf, onto, lines, isDigit, digits, afterDigits, value, isDecimal, isNumber, word, follow, mayEnd, endsFootprint, Line, bad, says, beginsWith, numbered, read, Told, more, heard, tells, decimal, lineOf}
-use Rattle.rules.proofs.Decimals.{decimal-digits, digit-not-lf, number-read, number-value, decimal-one, decimal-more, tens}
+use Rattle.rules.specs.Refusals.{pass}
+use Rattle.rules.specs.Text.{Key, Start, Tiles, Side, Xlo, Ylo, Xhi, Yhi, X, Y, R, lf, onto, lines, isDigit, word, follow, mayEnd, endsFootprint, Line, says, beginsWith, numbered, read, Told, more, heard, tells, decimal, lineOf}
+use Rattle.rules.proofs.Decimals.{decimal-digits, digit-not-lf, number-read, number-value}
 
 -- ---- lines written one behind the other
 
