@@ -2,8 +2,8 @@
 -- Assumes nothing.
 use mathlib.Core.Path.{_≡_, refl}
 use mathlib.Core.List.{List, [], _∷_, _++_, map}
-use Prim.Native.Nat.{ℕ, _*_, _≤_}
-use lib.ListN.{length, replicate}
+use Prim.Native.Nat.{ℕ, _≤_}
+use lib.ListN.{length}
 use borrow.Author.Tests.{lt-ltb, le-ltb}
 use Rattle.laws.specs.Lists.{each}
 use Rattle.rules.specs.Sizes.{badSizes, offGrid, badPoint, column, tileNo, rowOf, columnOf, tileCount, tiles, tileOf}
@@ -99,15 +99,11 @@ case-P-told = refl
 
 -- ---- the program's limits
 
--- a register of so many footprints, all of them one point
-unfoldable pub points : ℕ → List ℕ
-points k = replicate (4 * k) 0
-
 -- n 16 and 17, 512 footprints and 513; sizes come first
 pub limits :
-    sheetVerdict (grid 16 1) (points 512) ∷ sheetVerdict (grid 17 1) [] ∷ sheetVerdict (grid 16 1) (points 513) ∷ sheetVerdict (grid 16 0) (points 513) ∷ []
+    sheetVerdict (grid 16 1) 512 ∷ sheetVerdict (grid 17 1) 0 ∷ sheetVerdict (grid 16 1) 513 ∷ sheetVerdict (grid 16 0) 513 ∷ []
     ≡ pass ∷ refuse Sizes ∷ refuse Lengths ∷ refuse Sizes ∷ []
-unfolding sheetVerdict badSizes count points
+unfolding sheetVerdict badSizes
 limits = refl
 
 -- ---- what is printed

@@ -281,14 +281,14 @@ questionsText g t (a ∷ l) =
 unfoldable pub builtText : Grid → List ℕ → Paper × List ℕ × List ℕ → List Question → List ℕ
 builtText g reg b l = cond (eqb (b .0 .number) 0) (questionsText g (tables reg (b .1) (b .2)) l) (refusalText (b .0))
 
--- n over 16 is refusal 1, over 512 footprints are refusal 2
-unfoldable pub sheetVerdict : Grid → List ℕ → Verdict
-sheetVerdict g reg =
-    judge (badSizes g || ltb sheetTiles (g .n)) Sizes (judge (ltb sheetFootprints (count reg)) Lengths pass)
+-- n over 16 is refusal 1 too, over 512 footprints are refusal 2
+unfoldable pub sheetVerdict : Grid → ℕ → Verdict
+sheetVerdict g footprints =
+    judge (badSizes g || ltb sheetTiles (g .n)) Sizes (judge (ltb sheetFootprints footprints) Lengths pass)
 
 unfoldable pub sheetText : Grid → List ℕ → List Question → List ℕ
 sheetText g reg l =
-    unless (sheetVerdict g reg) (λ r. refusalText (paper r))
+    unless (sheetVerdict g (count reg)) (λ r. refusalText (paper r))
     (builtText g reg (builds g reg (replicate (runs g + 1) 0) (replicate sheetEntries 0)) l)
 
 unfoldable pub toldText : Told → List ℕ

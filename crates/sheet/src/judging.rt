@@ -1,12 +1,15 @@
-// A text judged whole, line by line.
+// A text judged whole, line by line, and its sizes by the program's own limits.
 ghost use mathlib.Core.Path.{_≡_};
-ghost use Rattle.sheet.specs.Sheets.{judges};
+ghost use Rattle.rules.specs.Text.{sheetVerdict};
+ghost use Rattle.sheet.specs.Sheets.{judges, verdictOf};
 use crate::Key;
+use crate::Limits;
 use crate::Line;
 use crate::Sheet;
 use crate::lines::ends_footprint;
 use crate::lines::line_at;
 use crate::lines::may_end;
+use rules::Grid;
 use rules::Refusal;
 
 // Judges a text and reads its numbers: n, side, the register and the questions, one behind the other. Of a bad text the numbers
@@ -44,4 +47,26 @@ pub fn judge(text: &[u8], numbers: &mut [u32]) -> Sheet
         return Sheet::Good(count, footprints);
     }
     Sheet::Refused(Refusal::Text(count as u32 + 1))
+}
+
+// Whether a sheet keeps the program's limits: n 1..16, side 1..16,384, 512 footprints at most.
+pub fn within(g: Grid, footprints: u32) -> Limits
+    ensures { λ r. ⌜ verdictOf r ≡ sheetVerdict g footprints ⌝ }
+{
+    if g.n < 1 {
+        return Limits::Refused(Refusal::Sizes);
+    }
+    if 16 < g.n {
+        return Limits::Refused(Refusal::Sizes);
+    }
+    if g.side < 1 {
+        return Limits::Refused(Refusal::Sizes);
+    }
+    if 16384 < g.side {
+        return Limits::Refused(Refusal::Sizes);
+    }
+    if 512 < footprints {
+        return Limits::Refused(Refusal::Lengths);
+    }
+    Limits::Within
 }

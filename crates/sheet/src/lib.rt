@@ -6,6 +6,7 @@ mod print;
 
 pub use decimals::number_at;
 pub use judging::judge;
+pub use judging::within;
 pub use print::put_decimal;
 pub use print::put_found;
 pub use print::put_hit;
@@ -42,5 +43,11 @@ pub enum Line {
 // A text judged: how many numbers it says and how many footprints they have, or why it is refused.
 pub enum Sheet {
     Good(usize, u32),
+    Refused(Refusal),
+}
+
+// Whether a good text keeps the program's limits.
+pub enum Limits {
+    Within,
     Refused(Refusal),
 }
