@@ -12,7 +12,7 @@ use Rattle.laws.specs.Lists.{all, same, total}
 use Rattle.laws.proofs.Tests.{by-bool, fst-true, snd-true, clash}
 use Rattle.laws.proofs.Same.{same-true}
 use Rattle.rules.specs.Refusals.{pass, refuse, judge}
-use Rattle.rules.specs.Text.{Key, Start, Tiles, Side, Xlo, Ylo, Xhi, Yhi, X, Y, R, word, follow, mayEnd, endsFootprint, Line, bad, says, beginsWith, isDigit, isDecimal, isNumber, digits, afterDigits, value, numbered, read, Told, heard, tells, lf, onto, lines, mostBytes, judged}
+use Rattle.rules.specs.Text.{Key, Start, Tiles, Side, Xlo, Ylo, Xhi, Yhi, X, Y, R, word, follow, mayEnd, endsFootprint, Line, bad, says, beginsWith, isDigit, isDecimal, isNumber, digits, afterDigits, value, numbered, read, Told, heard, tells, lf, onto, lines, mostBytes, mostDigits, judged}
 use Rattle.rules.specs.declared.Refusal.{Refusal}
 use Rattle.rules.specs.declared.Refusal.the-variants.{Text}
 
@@ -121,13 +121,17 @@ tells-counted k i (a ∷ l) e =
     (λ j v. tells-counted j (suc i) l v)
     e
 
+sizes-counted : (i : ℕ) (l : List (List ℕ)) → tells Start i l .verdict ≡ pass → 2 + 4 * tells Start i l .footprints ≤ length (tells Start i l .said)
+unfolding owed begun
+sizes-counted i l e = omega (arith, tells-counted Start i l e)
+
 -- a good text says two sizes and its footprints, whatever questions follow
 pub footprints-said : (bytes : List ℕ) → judged bytes .verdict ≡ pass → 2 + 4 * judged bytes .footprints ≤ length (judged bytes .said)
-unfolding judged owed begun
+unfolding judged
 footprints-said bytes e =
     by-bool (ltb mostBytes (length bytes))
     (λ t. never (Text 0) (rw t at e))
-    (λ t. rw t (omega (arith, tells-counted Start 1 (lines bytes) (rw t at e))))
+    (λ t. rw t (sizes-counted _ (lines bytes) (rw t at e)))
 
 -- ---- a good line has four bytes or more
 
@@ -166,7 +170,7 @@ unfolding isNumber isDecimal
 number-long l e =
     let d = fst-true (isDecimal (digits l)) (same (afterDigits l) (lf ∷ [])) e in
     let s = snd-true (isDecimal (digits l)) (same (afterDigits l) (lf ∷ [])) e in
-    let m = leb-true 1 (length (digits l)) (fst-true (leb 1 (length (digits l))) (leb (length (digits l)) 7) (fst-true (leb 1 (length (digits l)) && leb (length (digits l)) 7) _ d)) in
+    let m = leb-true 1 (length (digits l)) (fst-true (leb 1 (length (digits l))) (leb (length (digits l)) mostDigits) (fst-true (leb 1 (length (digits l)) && leb (length (digits l)) mostDigits) _ d)) in
     omega (arith, digits-all l, m, ap length (same-true (afterDigits l) (lf ∷ []) s))
 
 read-long : (ks : List Key) (a : List ℕ) (k : Key) (n : ℕ) → all wordy ks ≡ true → read ks a ≡ says k n → 4 ≤ length a
@@ -207,10 +211,13 @@ lines-total [] = refl
 lines-total (b ∷ l) =
     by-bool (eqb b lf) (λ e. rw e (omega (arith, lines-total l))) (λ e. rw e (onto-total b (lines l) ∙ ap suc (lines-total l)))
 
+lines-short : (i : ℕ) (bytes : List ℕ) → length bytes ≤ mostBytes → length (tells Start i (lines bytes) .said) ≤ 16384
+lines-short i bytes h = omega (arith, tells-short Start i (lines bytes), lines-total bytes)
+
 -- 16,384 numbers are enough for every text
 pub numbers-enough : (bytes : List ℕ) → length (judged bytes .said) ≤ 16384
 unfolding judged
 numbers-enough bytes =
     by-bool (ltb mostBytes (length bytes))
     (λ t. rw t (omega arith))
-    (λ t. rw t (omega (arith, tells-short Start 1 (lines bytes), lines-total bytes, ltb-false mostBytes (length bytes) t)))
+    (λ t. rw t (lines-short _ bytes (ltb-false mostBytes (length bytes) t)))

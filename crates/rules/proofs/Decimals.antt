@@ -9,7 +9,7 @@ use lib.ListN.{length, getD, length-append, List·getD-append}
 use borrow.Author.Tests.{lt-ltb, le-ltb, leb-true, le-leb, eq-eqb, ne-eqb}
 use Rattle.laws.specs.Lists.{all}
 use Rattle.laws.proofs.Tests.{by-le, fst-true, snd-true, both-true}
-use Rattle.rules.specs.Text.{lf, isDigit, digits, afterDigits, value, isDecimal, isNumber, spelled, decimal}
+use Rattle.rules.specs.Text.{mostDigits, lf, isDigit, digits, afterDigits, value, isDecimal, isNumber, spelled, decimal}
 
 -- ---- digit by digit
 
@@ -123,7 +123,7 @@ decimal-first n =
 pub decimal-good : (n : ℕ) → n < 10000000 → isDecimal (decimal n) ≡ true
 unfolding isDecimal
 decimal-good n h =
-    both-true (both-true (le-leb 1 (length (decimal n)) (decimal-some n)) (le-leb (length (decimal n)) 7 (decimal-length 6 n h)))
+    both-true (both-true (le-leb 1 (length (decimal n)) (decimal-some n)) (le-leb (length (decimal n)) mostDigits (omega (arith, decimal-length 6 n h))))
     (by-le 10 n (λ e. lead (ne-eqb (getD (decimal n) 0 0) 48 (decimal-first n (omega arith) .1))) (λ e. single (decimal-one n e)))
   where
     single : decimal n ≡ (48 + n) ∷ [] → (eqb (length (decimal n)) 1 || not (eqb (getD (decimal n) 0 0) 48)) ≡ true

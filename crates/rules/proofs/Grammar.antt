@@ -169,6 +169,13 @@ lines-joined [] = refl
 lines-joined (b ∷ l) =
     by-bool (eqb b lf) (λ e. rw e (ap (_∷_ b) (lines-joined l))) (λ e. rw e (onto-joined b (lines l) ∙ ap (_∷_ b) (lines-joined l)))
 
+lines-written : (i : ℕ) (bytes : List ℕ) → tells Start i (lines bytes) .verdict ≡ pass
+    → (ps : List Entry) × Ordered Start ps × (written ps ≡ bytes) × (tells Start i (lines bytes) ≡ toldBy ps)
+lines-written i bytes e =
+    let w = tells-written Start i (lines bytes) e in
+    let s : written (w .0) ≡ bytes = w .2 ∙ lines-joined bytes in
+    (w .0, w .1, s, sym (ap (λ (l : List ℕ). tells Start i (lines l)) s) ∙ written-told (w .1) i)
+
 -- a good text is its lines written in the order of the paper, and it says their numbers
 pub good-written : (bytes : List ℕ) → judged bytes .verdict ≡ pass
     → (ps : List Entry) × Ordered Start ps × (written ps ≡ bytes) × (judged bytes ≡ toldBy ps)
@@ -177,13 +184,10 @@ good-written bytes e =
     by-bool (ltb mostBytes (length bytes))
     (λ t. never (Text 0) (rw t at e))
     (λ t.
-    let w = tells-written Start 1 (lines bytes) (rw t at e) in
-    let s : written (w .0) ≡ bytes = w .2 ∙ lines-joined bytes in
-    let j : tells Start 1 (lines bytes) ≡ toldBy (w .0) =
-    sym (ap (λ (l : List ℕ). tells Start 1 (lines l)) s) ∙ written-told (w .1) 1 in
-    (w .0, w .1, s, rw t j))
+    let w = lines-written _ bytes (rw t at e) in
+    (w .0, w .1, w .2, rw t (w .3)))
 
 -- and every such text of at most 65,536 bytes is good
 pub written-good : (ps : List Entry) → Ordered Start ps → length (written ps) ≤ mostBytes → judged (written ps) ≡ toldBy ps
 unfolding judged
-written-good ps o h = rw (le-ltb mostBytes (length (written ps)) h) (written-told o 1)
+written-good ps o h = rw (le-ltb mostBytes (length (written ps)) h) (written-told o _)
