@@ -10,5 +10,6 @@ pub mod Starred
 pub mod Texts
 pub mod Counted
 pub mod Decimals
+pub mod Lengths
 pub mod Written
 pub mod Grammar
