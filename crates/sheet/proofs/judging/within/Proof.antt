@@ -1,5 +1,5 @@
 -- `judging::within` meets its contract. Assumes nothing.
-use Rattle.sheet.proofs.Small.{no-tiles, many-tiles, no-side, wide-side, many-footprints, all-within}
+use Rattle.sheet.proofs.KeepsLimits.{no-tiles, many-tiles, no-side, wide-side, many-footprints, all-within}
 use Rattle.sheet.proofs.judging.within.Statement.{statement}
 use Rattle.sheet.proofs.judging.within.Tie as tie
 

@@ -1,8 +1,9 @@
 -- The program's own limits, judged one after the other. Assumes nothing.
 use mathlib.Core.Path.{_≡_}
-use mathlib.Core.Bool.{or-true}
+use mathlib.Core.Bool.{false, _||_, or-true}
 use Prim.Native.Nat.{ℕ, _≤_, _<_}
 use native.Mathlib.Omega.{arith}
+use lib.Dec.{ltb}
 use borrow.Author.Tests.{lt-ltb, le-ltb}
 use Rattle.rules.specs.Sizes.{badSizes}
 use Rattle.rules.specs.Refusals.{pass, refuse}
@@ -29,26 +30,15 @@ module _ (g : Grid) (footprints : ℕ) where
     wide-side l h = rw (le-ltb (g .n) 1 least, le-ltb 64 (g .n) (omega arith), le-ltb (g .side) 1 l, lt-ltb 16384 (g .side) h)
 
     module _ (low : 1 ≤ g .side) (high : g .side ≤ 16384) where
+      good-sizes : (badSizes g || ltb 16 (g .n)) ≡ false
+      unfolding badSizes
+      good-sizes =
+          rw (le-ltb (g .n) 1 least, le-ltb 64 (g .n) (omega arith), le-ltb (g .side) 1 low, le-ltb 16384 (g .side) high, le-ltb 16 (g .n) most)
+
       pub many-footprints : 512 < footprints → refuse Lengths ≡ sheetVerdict g footprints
-      unfolding sheetVerdict badSizes
-      many-footprints h =
-          rw (
-            le-ltb (g .n) 1 least,
-            le-ltb 64 (g .n) (omega arith),
-            le-ltb (g .side) 1 low,
-            le-ltb 16384 (g .side) high,
-            le-ltb 16 (g .n) most,
-            lt-ltb 512 footprints h,
-          )
+      unfolding sheetVerdict
+      many-footprints h = rw (good-sizes, lt-ltb 512 footprints h)
 
       pub all-within : footprints ≤ 512 → pass ≡ sheetVerdict g footprints
-      unfolding sheetVerdict badSizes
-      all-within h =
-          rw (
-            le-ltb (g .n) 1 least,
-            le-ltb 64 (g .n) (omega arith),
-            le-ltb (g .side) 1 low,
-            le-ltb 16384 (g .side) high,
-            le-ltb 16 (g .n) most,
-            le-ltb 512 footprints h,
-          )
+      unfolding sheetVerdict
+      all-within h = rw (good-sizes, le-ltb 512 footprints h)
