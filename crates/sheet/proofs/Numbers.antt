@@ -1,17 +1,18 @@
 -- What a caller knows of a judged text: how many numbers it says, and where n, side, the register and the questions stand among them.
 -- Assumes nothing.
-use mathlib.Core.Path.{_≡_, refl, ap, ap₂, _∙_}
+use mathlib.Core.Path.{_≡_, refl, sym, ap, ap₂, _∙_}
 use mathlib.Core.List.{List, [], _∷_}
 use Prim.Native.Nat.{ℕ, _+_, _-_, _*_, _≤_, _<_}
 use native.Mathlib.Nat.{not-suc-le-zero}
 use native.Mathlib.Omega.{arith}
 use lib.Dec.{ltb}
-use lib.ListN.{length, getD, take, drop, length-drop, List·getD-append}
+use lib.ListN.{length, getD, take, drop, length-take, length-drop, List·getD-append}
 use lib.Seq.{take-append-le, drop-append-le, getD-drop, drop-drop}
 use Rattle.laws.specs.Lists.{over, part}
 use Rattle.laws.proofs.Tests.{by-bool}
 use Rattle.rules.specs.Refusals.{Verdict, pass, refuse}
-use Rattle.rules.specs.Text.{Told, judged, Question, inThrees}
+use Rattle.rules.specs.Text.{Told, judged, Question, inThrees, sheetGrid, sheetRegister, sheetQuestions}
+use Rattle.rules.specs.Register.{count}
 use Rattle.rules.specs.declared.Refusal.{Refusal}
 use Rattle.rules.proofs.Counted.{footprints-said, numbers-enough}
 use Rattle.sheet.specs.Sheets.{mostNumbers, sheetOf, judges}
@@ -92,3 +93,56 @@ short (x ∷ y ∷ r ∷ l) h = absurd (omega arith)
 
 pub no-question : (l : List ℕ) (i : ℕ) → length l < i + 3 → inThrees (drop i l) ≡ []
 no-question l i h = short (drop i l) (rw length-drop (omega arith))
+
+-- ---- where n, side, the register and the questions of a good text stand
+
+module _ (bytes lent : List ℕ) (all f : ℕ) (t : GoodText bytes all f) where
+  -- the numbers after the judge
+  abbrev after : List ℕ
+  after = over (judged bytes .said) lent
+
+  pub grid-stands : sheetGrid (judged bytes) ≡ record { n = getD after 0 0; side = getD after 1 0 }
+  unfolding sheetGrid
+  grid-stands =
+      rw (
+        said-at (judged bytes .said) lent 0 (omega (arith, t .some, t .all-said)),
+        said-at (judged bytes .said) lent 1 (omega (arith, t .some, t .all-said)),
+      )
+
+  pub register-stands : part after 2 (2 + 4 * f) ≡ sheetRegister (judged bytes)
+  unfolding sheetRegister
+  register-stands =
+      said-part (judged bytes .said) lent 2 (2 + 4 * f) (omega arith) (omega (arith, t .some, t .all-said))
+      ∙ ap (λ (k : ℕ). part (judged bytes .said) 2 (2 + 4 * k)) (sym (t .all-footprints))
+
+  pub register-count : count (sheetRegister (judged bytes)) ≡ f
+  unfolding sheetRegister count
+  register-count =
+      omega (
+        arith,
+        length-take (2 + 4 * judged bytes .footprints - 2) (drop 2 (judged bytes .said)),
+        length-drop 2 (judged bytes .said),
+        t .some,
+        t .all-said,
+        t .all-footprints,
+      )
+
+  pub questions-stand : sheetQuestions (judged bytes) ≡ inThrees (drop (2 + 4 * f) (judged bytes .said))
+  unfolding sheetQuestions
+  questions-stand = ap (λ (k : ℕ). inThrees (drop (2 + 4 * k) (judged bytes .said))) (t .all-footprints)
+
+  -- the question at a place, and those behind it
+  pub question-stands : (i : ℕ) → i + 3 ≤ all
+      → inThrees (drop i (judged bytes .said)) ≡ questionAt after i ∷ inThrees (drop (i + 3) (judged bytes .said))
+  question-stands i h =
+      let z = t .all-said in
+      let q : questionAt (judged bytes .said) i ≡ questionAt after i =
+      rw (
+        said-at (judged bytes .said) lent i (omega arith),
+        said-at (judged bytes .said) lent (i + 1) (omega arith),
+        said-at (judged bytes .said) lent (i + 2) (omega arith),
+      ) in
+      next-question (judged bytes .said) i (omega arith) ∙ ap (λ (a : Question). a ∷ inThrees (drop (i + 3) (judged bytes .said))) q
+
+  pub questions-end : (i : ℕ) → all < i + 3 → inThrees (drop i (judged bytes .said)) ≡ []
+  questions-end i h = no-question (judged bytes .said) i (omega (arith, t .all-said))
