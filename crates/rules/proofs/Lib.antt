@@ -25,3 +25,9 @@ pub mod Steps
 pub mod GroupLines
 pub mod InRange
 pub mod Weights
+pub mod Texts
+pub mod Counted
+pub mod Decimals
+pub mod Lengths
+pub mod Written
+pub mod Grammar

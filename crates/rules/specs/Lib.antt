@@ -15,4 +15,5 @@ pub mod Merge
 pub mod Walk
 pub mod Lines
 pub mod Waits
+pub mod Text
 pub mod Yard
