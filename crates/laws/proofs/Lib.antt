@@ -16,3 +16,6 @@ pub mod Choices
 pub mod Totals
 pub mod Lines
 pub mod Pairs
+pub mod Rising
+pub mod Forced
+pub mod Scans
