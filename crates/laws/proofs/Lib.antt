@@ -25,3 +25,6 @@ pub mod Rows
 pub mod Lengths
 pub mod Boxes
 pub mod Parts
+pub mod Rising
+pub mod Forced
+pub mod Scans
