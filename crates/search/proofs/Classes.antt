@@ -50,95 +50,102 @@ module _ (g : Grid) (t : Tables) (q : Point) (r : ℕ) where
       → Holds g t q r (j ∷ []) h₀ lent₀ h lent → Holds g t q r (filter (allowedRun g q) (k ∷ [])) h₀ lent₀ h lent
   hold-one k j f e h₀ h lent₀ lent p = rw e (rw f at p)
 
-  -- ---- all classes
+-- ---- all classes
 
-  module _ (tile c₀ : ℕ) (lent₀ : List ℕ) where
-    -- the runs of the tile from a class on
-    abbrev runsFrom : ℕ → List ℕ
-    runsFrom class = filter (allowedRun g q) (from (16 * tile + class) (16 - class))
+module _ (g : Grid) (q : Point) (tile : ℕ) where
+  -- the runs of a tile from a class on, and that of one class
+  abbrev runsFrom : ℕ → List ℕ
+  runsFrom class = filter (allowedRun g q) (from (16 * tile + class) (16 - class))
 
-    abbrev oneRun : ℕ → List ℕ
-    oneRun class = filter (allowedRun g q) ((16 * tile + class) ∷ [])
+  abbrev oneRun : ℕ → List ℕ
+  oneRun class = filter (allowedRun g q) ((16 * tile + class) ∷ [])
 
-    runs-all : allowedRuns g q tile ≡ runsFrom 0
-    unfolding allowedRuns tileRuns
-    runs-all = ap (λ (n : ℕ). filter (allowedRun g q) (from n 16)) (sym (add-zero (16 * tile)))
+  runs-all : allowedRuns g q tile ≡ runsFrom 0
+  unfolding allowedRuns tileRuns
+  runs-all = ap (λ (n : ℕ). filter (allowedRun g q) (from n 16)) (sym (add-zero (16 * tile)))
 
-    runs-next : (class : ℕ) → class < 16 → runsFrom class ≡ oneRun class ++ runsFrom (class + 1)
-    runs-next class h =
-        let e : 16 - class ≡ suc (16 - (class + 1)) = omega arith in
-        let f : suc (16 * tile + class) ≡ 16 * tile + (class + 1) = omega arith in
-        ap (λ (n : ℕ). filter (allowedRun g q) (from (16 * tile + class) n)) e
-        ∙ ap (λ (n : ℕ). filter (allowedRun g q) ((16 * tile + class) ∷ from n (16 - (class + 1)))) f
-        ∙ filter-append (allowedRun g q) ((16 * tile + class) ∷ []) (from (16 * tile + (class + 1)) (16 - (class + 1)))
+  runs-next : (class : ℕ) → class < 16 → runsFrom class ≡ oneRun class ++ runsFrom (class + 1)
+  runs-next class h =
+      let e : 16 - class ≡ suc (16 - (class + 1)) = omega arith in
+      let f : suc (16 * tile + class) ≡ 16 * tile + (class + 1) = omega arith in
+      ap (λ (n : ℕ). filter (allowedRun g q) (from (16 * tile + class) n)) e
+      ∙ ap (λ (n : ℕ). filter (allowedRun g q) ((16 * tile + class) ∷ from n (16 - (class + 1)))) f
+      ∙ filter-append (allowedRun g q) ((16 * tile + class) ∷ []) (from (16 * tile + (class + 1)) (16 - (class + 1)))
 
-    runs-none : (class : ℕ) → 16 ≤ class → runsFrom class ≡ []
-    runs-none class h = let e : 16 - class ≡ 0 = omega arith in ap (λ (n : ℕ). filter (allowedRun g q) (from (16 * tile + class) n)) e
+  runs-none : (class : ℕ) → 16 ≤ class → runsFrom class ≡ []
+  runs-none class h = let e : 16 - class ≡ 0 = omega arith in ap (λ (n : ℕ). filter (allowedRun g q) (from (16 * tile + class) n)) e
 
-    -- what is held back and the runs from a class on are left
-    pub record TileLeft (lent : List ℕ) (h : Held) (class : ℕ) : Type 0 where
-      pub left : Left (keepHit g (t .reg) q) (goodRuns g t (allowedRuns g q tile)) (goodEntries g (t .reg) (heldIn (t .entries) h) && goodRuns g t (runsFrom class))
-          (hitsOf g t q r (allowedRuns g q tile)) (hitsIn g (t .reg) q r (heldIn (t .entries) h) ++ hitsOf g t q r (runsFrom class)) c₀ (h .count) lent₀ lent
-      pub lies : Lies (t .entries) h
-      pub fine : h .bad ≡ false
-      pub few : h .count + (h .past - h .begin) ≤ c₀ + class * 268435456
-      pub sized : length lent ≡ length lent₀
-      pub most : class ≤ 16
+-- what is held back and the runs from a class on are left
+pub record TileLeft (g : Grid) (t : Tables) (q : Point) (r tile c₀ : ℕ) (lent₀ lent : List ℕ) (h : Held) (class : ℕ) : Type 0 where
+  pub left : Left (keepHit g (t .reg) q) (goodRuns g t (allowedRuns g q tile)) (goodEntries g (t .reg) (heldIn (t .entries) h) && goodRuns g t (runsFrom g q tile class))
+      (hitsOf g t q r (allowedRuns g q tile)) (hitsIn g (t .reg) q r (heldIn (t .entries) h) ++ hitsOf g t q r (runsFrom g q tile class)) c₀ (h .count) lent₀ lent
+  pub lies : Lies (t .entries) h
+  pub fine : h .bad ≡ false
+  pub few : h .count + (h .past - h .begin) ≤ c₀ + class * 268435456
+  pub sized : length lent ≡ length lent₀
+  pub most : class ≤ 16
 
-    pub tile-all : TileLeft lent₀ (held 0 0 c₀ false) 0
-    tile-all = record {
-      left = left-same c₀ lent₀ (ap (goodRuns g t) runs-all) (ap (hitsOf g t q r) runs-all);
-      lies = record { ordered = omega arith; inside = omega arith };
-      fine = refl;
-      few = omega arith;
-      sized = refl;
-      most = omega arith;
-    }
+module _ {g : Grid} {t : Tables} {q : Point} {r tile c₀ : ℕ} {lent₀ : List ℕ} where
+  pub tile-all : TileLeft g t q r tile c₀ lent₀ lent₀ (held 0 0 c₀ false) 0
+  tile-all = record {
+    left = left-same c₀ lent₀ (ap (goodRuns g t) (runs-all g q tile)) (ap (hitsOf g t q r) (runs-all g q tile));
+    lies = record { ordered = omega arith; inside = omega arith };
+    fine = refl;
+    few = omega arith;
+    sized = refl;
+    most = omega arith;
+  }
 
-    module _ (lent : List ℕ) (h : Held) (class : ℕ) (p : TileLeft lent h class) where
-      abbrev goodHeld : Bool
-      goodHeld = goodEntries g (t .reg) (heldIn (t .entries) h)
+  module _ {lent : List ℕ} {h : Held} {class : ℕ} (p : TileLeft g t q r tile c₀ lent₀ lent h class) where
+    abbrev goodHeld : Bool
+    goodHeld = goodEntries g (t .reg) (heldIn (t .entries) h)
 
-      abbrev hitsHeld : List ℕ
-      hitsHeld = hitsIn g (t .reg) q r (heldIn (t .entries) h)
+    abbrev hitsHeld : List ℕ
+    hitsHeld = hitsIn g (t .reg) q r (heldIn (t .entries) h)
 
-      module _ (lt : class < 16) (lent′ : List ℕ) (h′ : Held) (s : Holds g t q r (oneRun class) h lent h′ lent′) where
-        good-next : (goodHeld && goodRuns g t (runsFrom class)) ≡ ((goodHeld && goodRuns g t (oneRun class)) && goodRuns g t (runsFrom (class + 1)))
-        good-next =
-            ap (λ (b : Bool). goodHeld && b) (ap (goodRuns g t) (runs-next class lt) ∙ good-runs-append g t q r (oneRun class) (runsFrom (class + 1)))
-            ∙ sym (and-assoc goodHeld (goodRuns g t (oneRun class)) (goodRuns g t (runsFrom (class + 1))))
+    abbrev goodLeft : ℕ → Bool
+    goodLeft k = goodRuns g t (runsFrom g q tile k)
 
-        hits-next : hitsHeld ++ hitsOf g t q r (runsFrom class) ≡ (hitsHeld ++ hitsOf g t q r (oneRun class)) ++ hitsOf g t q r (runsFrom (class + 1))
-        hits-next =
-            ap (λ (l : List ℕ). hitsHeld ++ l) (ap (hitsOf g t q r) (runs-next class lt) ∙ hits-of-append g t q r (oneRun class) (runsFrom (class + 1)))
-            ∙ sym (append-assoc hitsHeld (hitsOf g t q r (oneRun class)) (hitsOf g t q r (runsFrom (class + 1))))
+    abbrev hitsLeft : ℕ → List ℕ
+    hitsLeft k = hitsOf g t q r (runsFrom g q tile k)
 
-        pub tile-on : h′ .bad ≡ false → length lent′ ≡ length lent → TileLeft lent′ h′ (class + 1)
-        tile-on e n = record {
-          left = left-on (goodRuns g t (runsFrom (class + 1))) (hitsOf g t q r (runsFrom (class + 1))) (p .left) good-next hits-next (s .when-good e);
-          lies = s .lies;
-          fine = e;
-          few = omega (arith, p .few, s .few);
-          sized = n ∙ p .sized;
-          most = omega arith;
-        }
+    module _ (lt : class < 16) {lent′ : List ℕ} {h′ : Held} (s : Holds g t q r (oneRun g q tile class) h lent h′ lent′) where
+      good-next : (goodHeld && goodLeft class) ≡ ((goodHeld && goodRuns g t (oneRun g q tile class)) && goodLeft (class + 1))
+      good-next =
+          ap (λ (b : Bool). goodHeld && b) (ap (goodRuns g t) (runs-next g q tile class lt) ∙ good-runs-append g t q r (oneRun g q tile class) (runsFrom g q tile (class + 1)))
+          ∙ sym (and-assoc goodHeld (goodRuns g t (oneRun g q tile class)) (goodLeft (class + 1)))
 
-        pub tile-bad : h′ .bad ≡ true → (l : List ℕ) → JudgedRuns g t q r (allowedRuns g q tile) 4294967296 c₀ lent₀ (tally 0 true) l
-        tile-bad e l = record {
-          when-bad = λ _. left-bad (goodRuns g t (runsFrom (class + 1))) (p .left) good-next (s .when-bad e);
-          when-good = λ f. clash f;
-          few = omega arith;
-        }
+      hits-next : hitsHeld ++ hitsLeft class ≡ (hitsHeld ++ hitsOf g t q r (oneRun g q tile class)) ++ hitsLeft (class + 1)
+      hits-next =
+          ap (λ (l : List ℕ). hitsHeld ++ l) (ap (hitsOf g t q r) (runs-next g q tile class lt) ∙ hits-of-append g t q r (oneRun g q tile class) (runsFrom g q tile (class + 1)))
+          ∙ sym (append-assoc hitsHeld (hitsOf g t q r (oneRun g q tile class)) (hitsLeft (class + 1)))
 
-      -- the part that is held back at the end is read
-      pub tile-end : 16 ≤ class → (y : Tally) (lent′ : List ℕ)
-          → JudgedEntries g (t .reg) q r (heldIn (t .entries) h) (h .past - h .begin) (h .count) lent y lent′
-          → JudgedRuns g t q r (allowedRuns g q tile) 4294967296 c₀ lent₀ y lent′
-      unfolding goodRuns
-      tile-end k y lent′ j = record {
-        when-bad = λ e. left-bad (goodRuns g t (runsFrom class)) (p .left) refl (j .when-bad e);
-        when-good = λ e.
-            left-none (left-on (goodRuns g t (runsFrom class)) (hitsOf g t q r (runsFrom class)) (p .left) refl refl (j .when-good e))
-            (ap (goodRuns g t) (runs-none class k)) (ap (hitsOf g t q r) (runs-none class k));
-        few = omega (arith, p .few, p .most, j .few);
+      pub tile-on : h′ .bad ≡ false → length lent′ ≡ length lent → TileLeft g t q r tile c₀ lent₀ lent′ h′ (class + 1)
+      tile-on e n = record {
+        left = left-on (goodLeft (class + 1)) (hitsLeft (class + 1)) (p .left) good-next hits-next (s .when-good e);
+        lies = s .lies;
+        fine = e;
+        few = omega (arith, p .few, s .few);
+        sized = n ∙ p .sized;
+        most = omega arith;
       }
+
+      pub tile-bad : h′ .bad ≡ true → (l : List ℕ) → JudgedRuns g t q r (allowedRuns g q tile) 4294967296 c₀ lent₀ (tally 0 true) l
+      tile-bad e l = record {
+        when-bad = λ _. left-bad (goodLeft (class + 1)) (p .left) good-next (s .when-bad e);
+        when-good = λ f. clash f;
+        few = omega arith;
+      }
+
+    -- the part that is held back at the end is read
+    pub tile-end : 16 ≤ class → {y : Tally} {lent′ : List ℕ}
+        → JudgedEntries g (t .reg) q r (heldIn (t .entries) h) (h .past - h .begin) (h .count) lent y lent′
+        → JudgedRuns g t q r (allowedRuns g q tile) 4294967296 c₀ lent₀ y lent′
+    unfolding goodRuns
+    tile-end k j = record {
+      when-bad = λ e. left-bad (goodLeft class) (p .left) refl (j .when-bad e);
+      when-good = λ e.
+          left-none (left-on (goodLeft class) (hitsLeft class) (p .left) refl refl (j .when-good e))
+          (ap (goodRuns g t) (runs-none g q tile class k)) (ap (hitsOf g t q r) (runs-none g q tile class k));
+      few = omega (arith, p .few, p .most, j .few);
+    }

@@ -1,4 +1,4 @@
--- A loop over pieces of what is read, as columns of a row or rows of the box: what is left, one piece more, damage, the end. Assumes nothing.
+-- A loop over the columns of a row of the box, or over its rows: what is left, one piece more, damage, the end. Assumes nothing.
 use mathlib.Core.Path.{_≡_, refl, sym, ap, _∙_}
 use mathlib.Core.Bool.{true, false, _&&_}
 use mathlib.Core.List.{List, _++_}
@@ -14,68 +14,88 @@ use Rattle.rules.specs.declared.Grid.{Grid}
 use Rattle.rules.specs.declared.Point.{Point}
 use Rattle.search.specs.Reading.{keepHit, Left, hitsOf, JudgedRuns}
 use Rattle.search.specs.declared.Tally.{Tally}
-use Rattle.search.proofs.Left.{left-all, left-on, left-bad, left-none}
+use Rattle.search.proofs.Left.{left-same, left-on, left-bad, left-none}
 use Rattle.search.proofs.Entries.{tally}
 use Rattle.search.proofs.Tile.{good-runs-append, hits-of-append}
 
--- pieces a..b−1, each of at most most entries
-module _ (g : Grid) (t : Tables) (q : Point) (r : ℕ) (piece : ℕ → List ℕ) (a b most c₀ : ℕ) (lent₀ : List ℕ) where
-  abbrev pub piecesFrom : ℕ → List ℕ
-  piecesFrom i = each piece (from i (b - i))
+-- the pieces from i up to and including last
+abbrev piecesFrom : (ℕ → List ℕ) → ℕ → ℕ → List ℕ
+piecesFrom piece last i = each piece (from i (last + 1 - i))
 
-  -- the pieces from i on are left, and found hits are found
-  pub record PiecesLeft (lent : List ℕ) (found i : ℕ) : Type 0 where
-    pub left : Left (keepHit g (t .reg) q) (goodRuns g t (piecesFrom a)) (goodRuns g t (piecesFrom i)) (hitsOf g t q r (piecesFrom a)) (hitsOf g t q r (piecesFrom i)) c₀ found lent₀ lent
-    pub few : found ≤ c₀ + (i - a) * most
-    pub sized : length lent ≡ length lent₀
-    pub low : a ≤ i
-    pub high : i ≤ b
+-- of the pieces first..last, each of at most most entries, those from i on are left, and found hits are found
+pub record PiecesLeft (g : Grid) (t : Tables) (q : Point) (r : ℕ) (whole : List ℕ) (piece : ℕ → List ℕ) (most c₀ : ℕ) (lent₀ : List ℕ)
+    (first last : ℕ) (lent : List ℕ) (found i : ℕ) : Type 0 where
+  pub whole-is : whole ≡ piecesFrom piece last first
+  pub left : Left (keepHit g (t .reg) q) (goodRuns g t whole) (goodRuns g t (piecesFrom piece last i)) (hitsOf g t q r whole) (hitsOf g t q r (piecesFrom piece last i)) c₀ found lent₀ lent
+  pub few : found ≤ c₀ + (i - first) * most
+  pub sized : length lent ≡ length lent₀
+  pub low : first ≤ i
+  pub high : i ≤ last + 1
+  pub inside : last < g .n
+  pub small : g .n ≤ 64
 
-  pub pieces-all : a ≤ b → PiecesLeft lent₀ c₀ a
-  pieces-all h = record { left = left-all _ _ _ _; few = omega arith; sized = refl; low = omega arith; high = h }
+module _ {g : Grid} {t : Tables} {q : Point} {r : ℕ} {whole : List ℕ} {piece : ℕ → List ℕ} {most c₀ : ℕ} {lent₀ : List ℕ} {first last : ℕ} where
+  pub pieces-all : whole ≡ piecesFrom piece last first → first ≤ last → last < g .n → g .n ≤ 64
+      → PiecesLeft g t q r whole piece most c₀ lent₀ first last lent₀ c₀ first
+  pieces-all e h k m = record {
+    whole-is = e;
+    left = left-same c₀ lent₀ (ap (goodRuns g t) e) (ap (hitsOf g t q r) e);
+    few = omega arith;
+    sized = refl;
+    low = omega arith;
+    high = omega arith;
+    inside = k;
+    small = m;
+  }
 
-  -- what m pieces can have found
-  pub pieces-few : (m i : ℕ) → i ≤ b → b - a ≤ m → (i - a) * most ≤ m * most
-  pieces-few m i h k = mul-le-mul-right most (omega arith)
-
-  module _ (lent : List ℕ) (found i : ℕ) (p : PiecesLeft lent found i) where
-    pub pieces-end : (m : ℕ) → b - a ≤ m → b ≤ i → JudgedRuns g t q r (piecesFrom a) (m * most) c₀ lent₀ (tally found false) lent
+  module _ {lent : List ℕ} {found i : ℕ} (p : PiecesLeft g t q r whole piece most c₀ lent₀ first last lent found i) where
+    pub pieces-end : last < i → JudgedRuns g t q r whole (64 * most) c₀ lent₀ (tally found false) lent
     unfolding goodRuns
-    pieces-end m k h = record {
-      when-bad = λ x. clash (sym x);
-      when-good = λ _. left-none (p .left) (ap (λ (l : List ℕ). goodRuns g t (each piece l)) (none-left i b h)) (ap (λ (l : List ℕ). hitsOf g t q r (each piece l)) (none-left i b h));
-      few = omega (arith, p .few, pieces-few m i (p .high) k);
-    }
+    pieces-end h =
+        let n = none-left i (last + 1) (omega arith) in
+        let u = p .high in let v = p .inside in let w = p .small in
+        let m : (i - first) * most ≤ 64 * most = mul-le-mul-right most (omega arith) in
+        record {
+          when-bad = λ x. clash (sym x);
+          when-good = λ _. left-none (p .left) (ap (λ (l : List ℕ). goodRuns g t (each piece l)) n) (ap (λ (l : List ℕ). hitsOf g t q r (each piece l)) n);
+          few = omega (arith, p .few);
+        }
 
-    module _ (lt : i < b) (y : Tally) (lent′ : List ℕ) (j : JudgedRuns g t q r (piece i) most found lent y lent′) where
-      next : piecesFrom i ≡ piece i ++ piecesFrom (i + 1)
-      next = ap (each piece) (next-left i b lt)
+    module _ (lt : i ≤ last) {y : Tally} {lent′ : List ℕ} (j : JudgedRuns g t q r (piece i) most found lent y lent′) where
+      next : piecesFrom piece last i ≡ piece i ++ piecesFrom piece last (i + 1)
+      next = ap (each piece) (next-left i (last + 1) (omega arith))
 
-      good-next : goodRuns g t (piecesFrom i) ≡ (goodRuns g t (piece i) && goodRuns g t (piecesFrom (i + 1)))
-      good-next = ap (goodRuns g t) next ∙ good-runs-append g t q r (piece i) (piecesFrom (i + 1))
+      good-next : goodRuns g t (piecesFrom piece last i) ≡ (goodRuns g t (piece i) && goodRuns g t (piecesFrom piece last (i + 1)))
+      good-next = ap (goodRuns g t) next ∙ good-runs-append g t q r (piece i) (piecesFrom piece last (i + 1))
 
-      hits-next : hitsOf g t q r (piecesFrom i) ≡ hitsOf g t q r (piece i) ++ hitsOf g t q r (piecesFrom (i + 1))
-      hits-next = ap (hitsOf g t q r) next ∙ hits-of-append g t q r (piece i) (piecesFrom (i + 1))
+      hits-next : hitsOf g t q r (piecesFrom piece last i) ≡ hitsOf g t q r (piece i) ++ hitsOf g t q r (piecesFrom piece last (i + 1))
+      hits-next = ap (hitsOf g t q r) next ∙ hits-of-append g t q r (piece i) (piecesFrom piece last (i + 1))
 
-      few-next : y .count ≤ c₀ + (i + 1 - a) * most
+      few-next : y .count ≤ c₀ + (i + 1 - first) * most
       few-next =
           let l = p .low in
-          let e : i + 1 - a ≡ suc (i - a) = omega arith in
-          let f : (i + 1 - a) * most ≡ (i - a) * most + most = ap (λ (n : ℕ). n * most) e ∙ suc-mul (i - a) most in
+          let e : i + 1 - first ≡ suc (i - first) = omega arith in
+          let f : (i + 1 - first) * most ≡ (i - first) * most + most = ap (λ (n : ℕ). n * most) e ∙ suc-mul (i - first) most in
           omega (arith, p .few, j .few)
 
-      pub pieces-on : y .bad ≡ false → length lent′ ≡ length lent → PiecesLeft lent′ (y .count) (i + 1)
+      pub pieces-on : y .bad ≡ false → length lent′ ≡ length lent → PiecesLeft g t q r whole piece most c₀ lent₀ first last lent′ (y .count) (i + 1)
       pieces-on e s = record {
-        left = left-on (goodRuns g t (piecesFrom (i + 1))) (hitsOf g t q r (piecesFrom (i + 1))) (p .left) good-next hits-next (j .when-good e);
+        whole-is = p .whole-is;
+        left = left-on (goodRuns g t (piecesFrom piece last (i + 1))) (hitsOf g t q r (piecesFrom piece last (i + 1))) (p .left) good-next hits-next (j .when-good e);
         few = few-next;
         sized = s ∙ p .sized;
         low = omega (arith, p .low);
         high = omega arith;
+        inside = p .inside;
+        small = p .small;
       }
 
-      pub pieces-bad : (m : ℕ) → b - a ≤ m → y .bad ≡ true → (l : List ℕ) → JudgedRuns g t q r (piecesFrom a) (m * most) c₀ lent₀ y l
-      pieces-bad m k e l = record {
-        when-bad = λ _. left-bad (goodRuns g t (piecesFrom (i + 1))) (p .left) good-next (j .when-bad e);
-        when-good = λ f. clash (sym e ∙ f);
-        few = omega (arith, few-next, pieces-few m (i + 1) (omega arith) k);
-      }
+      pub pieces-bad : y .bad ≡ true → (l : List ℕ) → JudgedRuns g t q r whole (64 * most) c₀ lent₀ y l
+      pieces-bad e l =
+          let v = p .inside in let w = p .small in
+          let m : (i + 1 - first) * most ≤ 64 * most = mul-le-mul-right most (omega arith) in
+          record {
+            when-bad = λ _. left-bad (goodRuns g t (piecesFrom piece last (i + 1))) (p .left) good-next (j .when-bad e);
+            when-good = λ f. clash (sym e ∙ f);
+            few = omega (arith, few-next);
+          }

@@ -2,12 +2,12 @@
 use mathlib.Core.Path.{_≡_, refl, sym, ap, ap₂, _∙_}
 use mathlib.Core.Bool.{Bool, true, false}
 use mathlib.Core.List.{List, [], _∷_, _++_, append-nil}
-use Prim.Native.Nat.{ℕ, zero, suc, _+_, _-_, _*_, _/_, _%_, _≤_, _<_}
+use Prim.Native.Nat.{ℕ, zero, suc, _+_, _-_, _*_, _/_, _%_, _<_}
 use native.Mathlib.Omega.{arith}
 use Rattle.laws.specs.Lists.{filter, from, each}
 use Rattle.laws.proofs.Lists.{filter-append, each-append}
 use Rattle.laws.proofs.Tests.{clash}
-use Rattle.rules.specs.Sizes.{badSizes, column, tileNo}
+use Rattle.rules.specs.Sizes.{column, tileNo}
 use Rattle.rules.specs.Span.{cover, place}
 use Rattle.rules.specs.Distance.{within, point}
 use Rattle.rules.specs.Classes.{allowed, allowedIn}
@@ -25,6 +25,7 @@ use Rattle.search.specs.Reading.{Placed, Allows, runsIn, JudgedRuns}
 use Rattle.search.specs.declared.Tally.{Tally}
 use Rattle.search.proofs.Left.{left-all}
 use Rattle.search.proofs.Entries.{tally}
+use Rattle.search.proofs.Pieces.{PiecesLeft, pieces-all}
 
 -- ---- one tile
 
@@ -88,12 +89,6 @@ module _ (g : Grid) (q : Point) (r : ℕ) where
   unfolding boxRow columnsNear
   row-is row = by-columns row (firstColumn g r (q .x)) (lastColumn g r (q .x) + 1 - firstColumn g r (q .x))
 
-  pub row-judged : (row first last : ℕ) → first ≡ firstColumn g r (q .x) → last ≡ lastColumn g r (q .x)
-      → (t : Tables) (most c : ℕ) (lent₀ : List ℕ) (y : Tally) (lent : List ℕ)
-      → JudgedRuns g t q r (each (columnRuns row) (from first (last + 1 - first))) most c lent₀ y lent
-      → JudgedRuns g t q r (runsIn g q r (boxRow g q r row)) most c lent₀ y lent
-  row-judged row first last e f t most c lent₀ y lent j = rw (row-is row, ← e, ← f) j
-
   -- a search, row by row of its box
   abbrev pub rowRuns : ℕ → List ℕ
   rowRuns row = runsIn g q r (boxRow g q r row)
@@ -111,17 +106,23 @@ module _ (g : Grid) (q : Point) (r : ℕ) where
       ap (each (allowedRuns g q)) (visited-box g (good-sizes g (ok .sizes)) q r (on-grid g q (ok .point)))
       ∙ by-rows (from (firstColumn g r (q .y)) (columnsNear g r (q .y)))
 
-  pub box-judged : Placed g q → (first last : ℕ) → first ≡ firstColumn g r (q .y) → last ≡ lastColumn g r (q .y)
-      → (t : Tables) (most c : ℕ) (lent₀ : List ℕ) (y : Tally) (lent : List ℕ)
-      → JudgedRuns g t q r (each rowRuns (from first (last + 1 - first))) most c lent₀ y lent
-      → JudgedRuns g t q r (readRuns g q r) most c lent₀ y lent
-  box-judged ok first last e f t most c lent₀ y lent j = rw (box-is ok, ← e, ← f) j
+-- ---- the two loops begin
 
--- the columns within r of a coordinate on the grid are some, and lie on the grid
-pub columns-fit : (g : Grid) → badSizes g ≡ false → (r x : ℕ) → x < g .n * g .side → (first last : ℕ) → first ≡ firstColumn g r x → last ≡ lastColumn g r x
-    → (first ≤ last) × (last < g .n) × (g .n ≤ 64)
-columns-fit g ok r x on first last e f =
-    let s = good-sizes g ok in
-    let a = first-last g s r x on in
-    let b = last-inside g s r x on in
-    (omega arith, omega arith, s .n-most)
+module _ {g : Grid} {t : Tables} {q : Point} {r most c : ℕ} {lent : List ℕ} {first last : ℕ} (ok : Placed g q) where
+  pub row-all : (row : ℕ) → first ≡ firstColumn g r (q .x) → last ≡ lastColumn g r (q .x)
+      → PiecesLeft g t q r (runsIn g q r (boxRow g q r row)) (columnRuns g q r row) most c lent first last lent c first
+  row-all row e f =
+      let s = good-sizes g (ok .sizes) in
+      let on = on-grid g q (ok .point) .x-on in
+      let a = first-last g s r (q .x) on in
+      let b = last-inside g s r (q .x) on in
+      pieces-all (row-is g q r row ∙ ap₂ (λ (m n : ℕ). each (columnRuns g q r row) (from m (n + 1 - m))) (sym e) (sym f)) (omega arith) (omega arith) (s .n-most)
+
+  pub box-all : first ≡ firstColumn g r (q .y) → last ≡ lastColumn g r (q .y)
+      → PiecesLeft g t q r (readRuns g q r) (rowRuns g q r) most c lent first last lent c first
+  box-all e f =
+      let s = good-sizes g (ok .sizes) in
+      let on = on-grid g q (ok .point) .y-on in
+      let a = first-last g s r (q .y) on in
+      let b = last-inside g s r (q .y) on in
+      pieces-all (box-is g q r ok ∙ ap₂ (λ (m n : ℕ). each (rowRuns g q r) (from m (n + 1 - m))) (sym e) (sym f)) (omega arith) (omega arith) (s .n-most)

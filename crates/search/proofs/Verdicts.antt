@@ -60,47 +60,48 @@ module _ (g : Grid) (t : Tables) (q : Point) (r : ℕ) where
       let f = judge-pass (not (goodRuns g t (readRuns g q r))) Damage pass (d .1) in
       (ready (a .0) (b .0) (c .0) (ltb-false _ _ (d .0)), not-false _ (f .0))
 
-  module _ (lent₀ lent : List ℕ) where
-    -- ---- refused, in this order
+-- ---- refused, in this order
 
-    refused : (v : Refusal) → searchVerdict g t q r ≡ refuse v → Counted g t q r lent₀ (Refused v) lent
-    unfolding judged
-    refused v e = record { answer = rw e; first = λ f. nothing (sym e ∙ f) }
+module _ {g : Grid} {t : Tables} {q : Point} {r : ℕ} {lent₀ lent : List ℕ} where
+  refused : (v : Refusal) → searchVerdict g t q r ≡ refuse v → Counted g t q r lent₀ (Refused v) lent
+  unfolding judged
+  refused v e = record { answer = rw e; first = λ f. nothing (sym e ∙ f) }
 
-    pub refused-sizes : badSizes g ≡ true → Counted g t q r lent₀ (Refused Sizes) lent
+  pub refused-sizes : badSizes g ≡ true → Counted g t q r lent₀ (Refused Sizes) lent
+  unfolding searchVerdict
+  refused-sizes a = refused Sizes (rw a)
+
+  module _ (a : badSizes g ≡ false) where
+    pub refused-lengths : badLengths g t ≡ true → Counted g t q r lent₀ (Refused Lengths) lent
     unfolding searchVerdict
-    refused-sizes a = refused Sizes (rw a)
+    refused-lengths b = refused Lengths (rw (a, b))
 
-    module _ (a : badSizes g ≡ false) where
-      pub refused-lengths : badLengths g t ≡ true → Counted g t q r lent₀ (Refused Lengths) lent
+    module _ (b : badLengths g t ≡ false) where
+      pub refused-place : badPoint g q ≡ true → Counted g t q r lent₀ (Refused Place) lent
       unfolding searchVerdict
-      refused-lengths b = refused Lengths (rw (a, b))
+      refused-place c = refused Place (rw (a, b, c))
 
-      module _ (b : badLengths g t ≡ false) where
-        pub refused-place : badPoint g q ≡ true → Counted g t q r lent₀ (Refused Place) lent
+      module _ (c : badPoint g q ≡ false) where
+        pub refused-radius : 2097151 < r → Counted g t q r lent₀ (Refused Radius) lent
         unfolding searchVerdict
-        refused-place c = refused Place (rw (a, b, c))
+        refused-radius d = refused Radius (rw (a, b, c, lt-ltb 2097151 r d))
 
-        module _ (c : badPoint g q ≡ false) where
-          pub refused-radius : 2097151 < r → Counted g t q r lent₀ (Refused Radius) lent
+        module _ (d : r ≤ 2097151) {y : Tally} (j : JudgedRuns g t q r (readRuns g q r) 17592186044416 0 lent₀ y lent) where
+          pub refused-damage : y .bad ≡ true → Counted g t q r lent₀ (Refused Damage) lent
           unfolding searchVerdict
-          refused-radius d = refused Radius (rw (a, b, c, lt-ltb 2097151 r d))
+          refused-damage e = refused Damage (rw (a, b, c, le-ltb 2097151 r d, j .when-bad e))
 
-          module _ (d : r ≤ 2097151) (y : Tally) (j : JudgedRuns g t q r (readRuns g q r) 17592186044416 0 lent₀ y lent) where
-            pub refused-damage : y .bad ≡ true → Counted g t q r lent₀ (Refused Damage) lent
-            unfolding searchVerdict
-            refused-damage e = refused Damage (rw (a, b, c, le-ltb 2097151 r d, j .when-bad e))
+          -- ---- accepted
 
-            -- ---- accepted
+          pub accepted : y .bad ≡ false → Counted g t q r lent₀ (Done (y .count)) lent
+          unfolding searchVerdict judged radiusHits kept
+          accepted e =
+              let p = j .when-good e in
+              let n : y .count ≡ length (radiusHits g t q r) = omega (arith, p .counts) in
+              let v : searchVerdict g t q r ≡ pass = rw (a, b, c, le-ltb 2097151 r d, p .still) in
+              record { answer = rw v (ap Done n); first = λ _. p .keeps }
 
-            pub accepted : y .bad ≡ false → Counted g t q r lent₀ (Done (y .count)) lent
-            unfolding searchVerdict judged radiusHits kept
-            accepted e =
-                let p = j .when-good e in
-                let n : y .count ≡ length (radiusHits g t q r) = omega (arith, p .counts) in
-                let v : searchVerdict g t q r ≡ pass = rw (a, b, c, le-ltb 2097151 r d, p .still) in
-                record { answer = rw v (ap Done n); first = λ _. p .keeps }
-
+module _ (g : Grid) (t : Tables) (q : Point) (r : ℕ) where
   -- ---- read again where all hits find room
 
   pub read-again : searchVerdict g t q r ≡ pass → (y : Tally) (out₀ out : List ℕ) → length (radiusHits g t q r) ≤ length out₀
@@ -108,7 +109,7 @@ module _ (g : Grid) (t : Tables) (q : Point) (r : ℕ) where
   unfolding radiusHits kept
   read-again v y out₀ out room j =
       by-bool (y .bad)
-      (λ e. clash (sym (passed v .1) ∙ j .when-bad e))
+      (λ e. clash (sym (passed g t q r v .1) ∙ j .when-bad e))
       (λ e. j .when-good e .keeps ∙ kept-fits g (t .reg) q (radiusHits g t q r) out₀ room)
 
   -- ---- the promise

@@ -1,8 +1,7 @@
 // The radius search: all that would be visited is judged and counted first, then written.
-// It costs a division or two for each row of the square's box, four multiplications for each of the box's tiles, and for each tile of
-// square ≤ r×r the starts of its allowed classes. Neighbouring allowed classes are read as one part of the entries. Each entry costs one
-// reading of its footprint's four numbers, for damage and distance; entries are read again only where the hits did not fit the small
-// array that keeps the first of them.
+// What it costs: a tile of the square's box, its square; a tile that is visited, two divisions and its sixteen classes, with two starts for
+// each that is allowed; an entry, one reading of its footprint's four numbers, for damage and distance. Neighbouring allowed classes are
+// read as one part of the entries. Entries are read a second time only where the hits do not fit the small array that keeps the first.
 
 mod scan; // scan.rt: entries, one after the other
 mod runs; // runs.rt: a tile, and the runs of its allowed classes
@@ -108,7 +107,7 @@ pub(crate) fn write(
 }
 
 // Writes the footprints within r of a point, in the order of the radius list, and gives how many they are. A refused search writes nothing,
-// and output past the hits stays as it was. It costs what is said above; refusals are judged in the order 1, 2, 4, 5, 7, 6.
+// and output past the hits stays as it was. Refusals are judged in the order 1, 2, 4, 5, 7, 6.
 pub fn search(
     g: Grid,
     reg: &[u32],

@@ -13,22 +13,19 @@ abbrev μ-loop : tie.MeasureT-loop
 μ-loop g reg starts entries q r tile mask count lent₀ held₀ class₀ lent held class = 16 - class
 
 loop-holds : tie.Need-loop-holds Inv-loop μ-loop
-loop-holds c = let a = c .before .before .before .before .args in tile-all (a .g) (tables (a .reg .now) (a .starts .now) (a .entries .now)) (a .q) (a .r) (a .tile) (a .count) (a .lent .now)
+loop-holds c = tile-all
 
 hold-class-requires : tie.Need-hold-class-requires Inv-loop μ-loop
 hold-class-requires c κs =
-    let l = c .before .before .loop in
-    let f = l .inv .few in
-    (c .before .before .before .before .before .before .before .pre .0, ((c .before .before .before .before .before .before .before .pre .1 .0, c .before .loop-test .taken), (c .before .before .before .before .before .before .before .pre .1 .1 .0, (l .inv .lies, (l .inv .fine, omega arith)))))
+    let p = c .before .before .loop .inv in
+    let f = p .few in
+    (c .before .before .before .before .before .before .before .pre .0, ((c .before .before .before .before .before .before .before .pre .1 .0, c .before .loop-test .taken), (c .before .before .before .before .before .before .before .pre .1 .1 .0, (p .lies, (p .fine, omega arith)))))
 
 same-length : tie.Need-same-length Inv-loop μ-loop
 same-length c = let s = c .before .before .before .hold-class .kept in omega arith
 
 returns : tie.Need-returns Inv-loop μ-loop
-returns c =
-    let a = c .before .before .before .before .before .before .before .before .before .before .before .args in let l = c .before .before .before .before .before .before .loop in
-    tile-bad (a .g) (tables (a .reg .now) (a .starts .now) (a .entries .now)) (a .q) (a .r) (a .tile) (a .count) (a .lent .now) (l .lent) (l .held) (l .class) (l .inv) (c .before .before .before .before .before .loop-test .taken)
-    _ (c .before .before .before .hold-class .result) (c .before .before .before .hold-class .ensures) (c .if1 .taken) _
+returns c = tile-bad (c .before .before .before .before .before .before .loop .inv) (c .before .before .before .before .before .loop-test .taken) (c .before .before .before .hold-class .ensures) (c .if1 .taken) _
 
 add-class : tie.Need-add-class Inv-loop μ-loop
 add-class c = omega arith
@@ -37,26 +34,20 @@ loop-less : tie.Need-loop-less Inv-loop μ-loop
 loop-less c = omega arith
 
 loop-again : tie.Need-loop-again Inv-loop μ-loop
-loop-again c =
-    let a = c .before .before .before .before .before .before .before .before .before .before .before .args in let l = c .before .before .before .before .before .before .loop in
-    tile-on (a .g) (tables (a .reg .now) (a .starts .now) (a .entries .now)) (a .q) (a .r) (a .tile) (a .count) (a .lent .now) (l .lent) (l .held) (l .class) (l .inv) (c .before .before .before .before .before .loop-test .taken)
-    _ (c .before .before .before .hold-class .result) (c .before .before .before .hold-class .ensures) (c .if1 .left) (c .before .before .before .hold-class .kept .1 .1 .1 .1 .1 .1 .1 .1 .1 .1 .0)
+loop-again c = tile-on (c .before .before .before .before .before .before .loop .inv) (c .before .before .before .before .before .loop-test .taken) (c .before .before .before .hold-class .ensures) (c .if1 .left) (c .before .before .before .hold-class .kept .1 .1 .1 .1 .1 .1 .1 .1 .1 .1 .0)
 
 judge-part-requires : tie.Need-judge-part-requires Inv-loop μ-loop
 judge-part-requires c κs =
-    let l = c .before .before .loop in
-    let f = l .inv .few in
-    let m = l .inv .most in
-    (c .before .before .before .before .before .before .before .pre .0 .placed, (l .inv .lies .inside, omega arith))
+    let p = c .before .before .loop .inv in
+    let f = p .few in
+    let m = p .most in
+    (c .before .before .before .before .before .before .before .pre .0 .placed, (p .lies .inside, omega arith))
 
 same-length-2 : tie.Need-same-length-2 Inv-loop μ-loop
-same-length-2 c = let l = c .before .before .before .before .before .loop in let s = l .inv .sized in omega arith
+same-length-2 c = let s = c .before .before .before .before .before .loop .inv .sized in omega arith
 
 returns-2 : tie.Need-returns-2 Inv-loop μ-loop
-returns-2 c =
-    let a = c .before .before .before .before .before .before .before .before .before .before .args in let l = c .before .before .before .before .before .loop in
-    tile-end (a .g) (tables (a .reg .now) (a .starts .now) (a .entries .now)) (a .q) (a .r) (a .tile) (a .count) (a .lent .now) (l .lent) (l .held) (l .class) (l .inv) (c .before .before .before .before .loop-test .left)
-    (c .before .before .judge-part .result) _ (c .before .before .judge-part .ensures)
+returns-2 c = tile-end (c .before .before .before .before .before .loop .inv) (c .before .before .before .before .loop-test .left) (c .before .before .judge-part .ensures)
 
 pub judge-tile-spec : {M : Type 1} → statement M
 judge-tile-spec =

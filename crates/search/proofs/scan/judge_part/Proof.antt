@@ -12,7 +12,7 @@ abbrev μ-loop : tie.MeasureT-loop
 μ-loop g reg entries q r begin past count lent₀ found₀ i₀ lent found i = past - i
 
 loop-holds : tie.Need-loop-holds Inv-loop μ-loop
-loop-holds c = let a = c .before .before .before .args in part-all (a .g) (a .reg .now) (a .entries .now) (a .q) (a .r) (a .begin) (a .past) (a .count) (a .lent .now)
+loop-holds c = part-all
 
 mul-judge-entry : tie.Need-mul-judge-entry Inv-loop μ-loop
 mul-judge-entry c = omega arith
@@ -27,10 +27,7 @@ same-length : tie.Need-same-length Inv-loop μ-loop
 same-length c = let s = c .before .before .before .judge-entry .kept in omega arith
 
 returns : tie.Need-returns Inv-loop μ-loop
-returns c =
-    let a = c .before .before .before .before .before .before .before .before .before .before .before .args in let l = c .before .before .before .before .before .before .before .loop in
-    part-bad (a .g) (a .reg .now) (a .entries .now) (a .q) (a .r) (a .begin) (a .past) (a .count) (a .lent .now) (l .lent) (l .found) (l .i) (l .inv) (c .before .before .before .before .before .before .loop-test .taken) (c .before .before .before .before .before .before .before .before .before .before .before .pre .1 .0)
-    (c .before .before .before .judge-entry .result) _ (c .before .before .before .judge-entry .ensures) (c .if1 .taken) _
+returns c = part-bad (c .before .before .before .before .before .before .before .loop .inv) (c .before .before .before .before .before .before .loop-test .taken) (c .before .before .before .before .before .before .before .before .before .before .before .pre .1 .0) (c .before .before .before .judge-entry .ensures) (c .if1 .taken) _
 
 add-i : tie.Need-add-i Inv-loop μ-loop
 add-i c = omega arith
@@ -39,18 +36,13 @@ loop-less : tie.Need-loop-less Inv-loop μ-loop
 loop-less c = omega arith
 
 loop-again : tie.Need-loop-again Inv-loop μ-loop
-loop-again c =
-    let a = c .before .before .before .before .before .before .before .before .before .before .before .args in let l = c .before .before .before .before .before .before .before .loop in
-    part-on (a .g) (a .reg .now) (a .entries .now) (a .q) (a .r) (a .begin) (a .past) (a .count) (a .lent .now) (l .lent) (l .found) (l .i) (l .inv) (c .before .before .before .before .before .before .loop-test .taken) (c .before .before .before .before .before .before .before .before .before .before .before .pre .1 .0)
-    (c .before .before .before .judge-entry .result) _ (c .before .before .before .judge-entry .ensures) (c .if1 .left) (c .before .before .before .judge-entry .kept .1 .1 .1 .1 .1 .1 .0)
+loop-again c = part-on (c .before .before .before .before .before .before .before .loop .inv) (c .before .before .before .before .before .before .loop-test .taken) (c .before .before .before .before .before .before .before .before .before .before .before .pre .1 .0) (c .before .before .before .judge-entry .ensures) (c .if1 .left) (c .before .before .before .judge-entry .kept .1 .1 .1 .1 .1 .1 .0)
 
 same-length-2 : tie.Need-same-length-2 Inv-loop μ-loop
 same-length-2 c = c .before .loop .inv .sized
 
 returns-2 : tie.Need-returns-2 Inv-loop μ-loop
-returns-2 c =
-    let a = c .before .before .before .before .before .args in let l = c .before .loop in
-    part-end (a .g) (a .reg .now) (a .entries .now) (a .q) (a .r) (a .begin) (a .past) (a .count) (a .lent .now) (l .lent) (l .found) (l .i) (l .inv) (c .loop-test .left)
+returns-2 c = part-end (c .before .loop .inv) (c .loop-test .left)
 
 pub judge-part-spec : {M : Type 1} → statement M
 judge-part-spec =
