@@ -28,7 +28,7 @@ mul-need : tie.Need-mul-need
 mul-need c = omega (arith, few (c .before))
 
 returns : tie.Need-returns
-returns c = let a = c .before .before .before .before .before .before .before .before .before .before .before .args in no-room (joinPairs (a .g) (tables (a .reg-r .now) (a .starts-r .now) (a .entries-r .now)) (tables (a .reg-s .now) (a .starts-s .now) (a .entries-s .now)) (a .r)) (a .out .now) (c .before .before .all .result) (all-found (c .before .before)) (c .if1 .taken)
+returns c = let a = c .before .before .before .before .before .before .before .before .before .before .before .args in no-room (joinPairs (a .g) (tables (a .reg-r .now) (a .starts-r .now) (a .entries-r .now)) (tables (a .reg-s .now) (a .starts-s .now) (a .entries-s .now)) (a .r)) (a .out .now) (c .before .before .all .result) (all-found (c .before .before)) (omega (arith, c .if1 .taken))
 
 slice-aggregate-copy : tie.Need-slice-aggregate-copy
 slice-aggregate-copy c = search needs

@@ -23,7 +23,7 @@ loop-holds c = let a = c .before .before .before .before .before .before .before
 of-position-requires : tie.Need-of-position-requires Inv-loop μ-loop
 of-position-requires c κs =
     let a = c .before .before .before .before .before .before .before .before .before .before .args in let l = c .before .before .loop in
-    (c .before .before .before .before .before .before .before .before .before .before .pre .0, c .before .before .before .before .before .before .before .before .before .before .pre .1, c .before .loop-test .taken, range-few (positionPairs (a .g) (tables (a .reg-r .now) (a .starts-r .now) (a .entries-r .now)) (tables (a .reg-s .now) (a .starts-s .now) (a .entries-s .now)) (a .r) (a .t)) 9 (state (a .found) (a .out .now)) (state (l .pairs) (l .out)) (l .p) mostPairs (c .before .loop-test .taken) (l .inv) (rw (around-pairs (a .g) (c .before .before .before .before .before .before .before .before .before .before .pre .0 .sizes) (tables (a .reg-r .now) (a .starts-r .now) (a .entries-r .now)) (tables (a .reg-s .now) (a .starts-s .now) (a .entries-s .now)) (a .r) (a .t) (c .before .before .before .before .before .before .before .before .before .before .pre .1)) at (c .before .before .before .before .before .before .before .before .before .before .pre .2)))
+    (c .before .before .before .before .before .before .before .before .before .before .pre .0, c .before .before .before .before .before .before .before .before .before .before .pre .1, omega (arith, c .before .loop-test .taken), range-few (positionPairs (a .g) (tables (a .reg-r .now) (a .starts-r .now) (a .entries-r .now)) (tables (a .reg-s .now) (a .starts-s .now) (a .entries-s .now)) (a .r) (a .t)) 9 (state (a .found) (a .out .now)) (state (l .pairs) (l .out)) (l .p) mostPairs (omega (arith, c .before .loop-test .taken)) (l .inv) (rw (around-pairs (a .g) (c .before .before .before .before .before .before .before .before .before .before .pre .0 .sizes) (tables (a .reg-r .now) (a .starts-r .now) (a .entries-r .now)) (tables (a .reg-s .now) (a .starts-s .now) (a .entries-s .now)) (a .r) (a .t) (c .before .before .before .before .before .before .before .before .before .before .pre .1)) at (c .before .before .before .before .before .before .before .before .before .before .pre .2)))
 
 add-p : tie.Need-add-p Inv-loop μ-loop
 add-p c = omega arith
@@ -34,7 +34,7 @@ loop-less c = omega arith
 loop-again : tie.Need-loop-again Inv-loop μ-loop
 loop-again c =
     let a = c .before .before .before .before .before .before .before .before .before .before .before .before .before .args in let l = c .before .before .before .before .before .loop in
-    range-step (positionPairs (a .g) (tables (a .reg-r .now) (a .starts-r .now) (a .entries-r .now)) (tables (a .reg-s .now) (a .starts-s .now) (a .entries-s .now)) (a .r) (a .t)) 9 (state (a .found) (a .out .now)) (state (l .pairs) (l .out)) _ (l .p) (c .before .before .before .before .loop-test .taken) (l .inv) (c .before .before .of-position .ensures)
+    range-step (positionPairs (a .g) (tables (a .reg-r .now) (a .starts-r .now) (a .entries-r .now)) (tables (a .reg-s .now) (a .starts-s .now) (a .entries-s .now)) (a .r) (a .t)) 9 (state (a .found) (a .out .now)) (state (l .pairs) (l .out)) _ (l .p) (omega (arith, c .before .before .before .before .loop-test .taken)) (l .inv) (c .before .before .of-position .ensures)
 
 same-length : tie.Need-same-length Inv-loop μ-loop
 same-length c =
@@ -44,7 +44,7 @@ same-length c =
 returns : tie.Need-returns Inv-loop μ-loop
 returns c =
     let a = c .before .before .before .before .before .before .before .before .before .args in let l = c .before .loop in
-    range-end (positionPairs (a .g) (tables (a .reg-r .now) (a .starts-r .now) (a .entries-r .now)) (tables (a .reg-s .now) (a .starts-s .now) (a .entries-s .now)) (a .r) (a .t)) 9 (state (a .found) (a .out .now)) (state (l .pairs) (l .out)) (l .p) (c .loop-test .left) (l .inv) ∙ ap (kept (state (a .found) (a .out .now))) (sym (around-pairs (a .g) (c .before .before .before .before .before .before .before .before .before .pre .0 .sizes) (tables (a .reg-r .now) (a .starts-r .now) (a .entries-r .now)) (tables (a .reg-s .now) (a .starts-s .now) (a .entries-s .now)) (a .r) (a .t) (c .before .before .before .before .before .before .before .before .before .pre .1)))
+    range-end (positionPairs (a .g) (tables (a .reg-r .now) (a .starts-r .now) (a .entries-r .now)) (tables (a .reg-s .now) (a .starts-s .now) (a .entries-s .now)) (a .r) (a .t)) 9 (state (a .found) (a .out .now)) (state (l .pairs) (l .out)) (l .p) (omega (arith, c .loop-test .left)) (l .inv) ∙ ap (kept (state (a .found) (a .out .now))) (sym (around-pairs (a .g) (c .before .before .before .before .before .before .before .before .before .pre .0 .sizes) (tables (a .reg-r .now) (a .starts-r .now) (a .entries-r .now)) (tables (a .reg-s .now) (a .starts-s .now) (a .entries-s .now)) (a .r) (a .t) (c .before .before .before .before .before .before .before .before .before .pre .1)))
 
 pub of-tile-spec : {M : Type 1} → statement M
 of-tile-spec =
