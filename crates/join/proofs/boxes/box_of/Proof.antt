@@ -23,15 +23,17 @@ cast-footprint : tie.Need-cast-footprint Inv-loop μ-loop
 cast-footprint c = omega (arith, c .shared-slice-known3 .given 0)
 
 footprint-requires : tie.Need-footprint-requires Inv-loop μ-loop
-footprint-requires c κs = let a = c .before .before .before .args in named-below (a .g) (a .reg .now) (getD (a .run .now) 0 0) (entry-good (a .g) (a .reg .now) (a .run .now) 0 (c .before .before .before .pre .2) (c .before .before .before .pre .1))
+footprint-requires c κs =
+    let s = c .before .before .before in
+    named-below (s .args .g) (s .args .reg .now) (getD (s .args .run .now) 0 0) (entry-good (s .args .g) (s .args .reg .now) (s .args .run .now) 0 (s .pre .2) (s .pre .1))
 
 loop-holds : tie.Need-loop-holds Inv-loop μ-loop
 loop-holds c =
-    let a = c .before .before .before .before .args in
+    let s = c .before .before .before .before in
     record {
       most = omega arith;
       rest = rw (c .footprint .ensures);
-      near = rw (c .footprint .ensures) (named-near (a .g) (a .reg .now) (getD (a .run .now) 0 0) (c .before .before .before .before .pre .0) (entry-good (a .g) (a .reg .now) (a .run .now) 0 (c .before .before .before .before .pre .2) (c .before .before .before .before .pre .1)));
+      near = rw (c .footprint .ensures) (named-near (s .args .g) (s .args .reg .now) (getD (s .args .run .now) 0 0) (s .pre .0) (entry-good (s .args .g) (s .args .reg .now) (s .args .run .now) 0 (s .pre .2) (s .pre .1)));
     }
 
 mul-footprint : tie.Need-mul-footprint Inv-loop μ-loop
@@ -44,7 +46,9 @@ cast-footprint-2 : tie.Need-cast-footprint-2 Inv-loop μ-loop
 cast-footprint-2 c = omega (arith, c .shared-slice-known4 .given (c .before .before .loop .at))
 
 footprint-requires-2 : tie.Need-footprint-requires-2 Inv-loop μ-loop
-footprint-requires-2 c κs = let a = c .before .before .before .before .before .before .before .args in named-below (a .g) (a .reg .now) (getD (a .run .now) (c .before .before .loop .at) 0) (entry-good (a .g) (a .reg .now) (a .run .now) (c .before .before .loop .at) (c .before .loop-test .taken) (c .before .before .before .before .before .before .before .pre .1))
+footprint-requires-2 c κs =
+    let s = c .before .before .before .before .before .before .before in
+    named-below (s .args .g) (s .args .reg .now) (getD (s .args .run .now) (c .before .before .loop .at) 0) (entry-good (s .args .g) (s .args .reg .now) (s .args .run .now) (c .before .before .loop .at) (c .before .loop-test .taken) (s .pre .1))
 
 around-requires : tie.Need-around-requires Inv-loop μ-loop
 around-requires c κs = search needs
@@ -56,13 +60,15 @@ loop-less : tie.Need-loop-less Inv-loop μ-loop
 loop-less c = omega (arith, c .before .before .before .before .loop .inv .most)
 
 loop-again : tie.Need-loop-again Inv-loop μ-loop
-loop-again c = let a = c .before .before .before .before .before .before .before .before .before .args in grown-on (a .g) (a .reg .now) (a .run .now) (rectangle (a .g) (a .reg .now) (getD (a .run .now) 0 0)) (c .before .before .before .before .loop .b) (c .before .footprint2 .result) (c .around .result) (c .before .before .before .before .loop .at) (c .before .before .before .before .loop .inv) (c .before .before .before .loop-test .taken) (c .before .footprint2 .ensures) (c .around .ensures)
+loop-again c =
+    let s = c .before .before .before .before .before .before .before .before .before in
+    grown-on (s .args .g) (s .args .reg .now) (s .args .run .now) (rectangle (s .args .g) (s .args .reg .now) (getD (s .args .run .now) 0 0)) (c .before .before .before .before .loop .b) (c .before .footprint2 .result) (c .around .result) (c .before .before .before .before .loop .at) (c .before .before .before .before .loop .inv) (c .before .before .before .loop-test .taken) (c .before .footprint2 .ensures) (c .around .ensures)
 
 returns : tie.Need-returns Inv-loop μ-loop
 returns c =
-    let a = c .before .before .before .before .before .before .args in
-    let e = grown-out (a .g) (a .reg .now) (a .run .now) (rectangle (a .g) (a .reg .now) (getD (a .run .now) 0 0)) (c .before .loop .b) (c .before .loop .at) (c .before .loop .inv) (c .loop-test .left) in
-    (e, grown-holds (a .g) (a .reg .now) (a .run .now) (rectangle (a .g) (a .reg .now) (getD (a .run .now) 0 0)) (c .before .loop .b) (c .before .loop .inv .near) e)
+    let s = c .before .before .before .before .before .before in
+    let e = grown-out (s .args .g) (s .args .reg .now) (s .args .run .now) (rectangle (s .args .g) (s .args .reg .now) (getD (s .args .run .now) 0 0)) (c .before .loop .b) (c .before .loop .at) (c .before .loop .inv) (c .loop-test .left) in
+    (e, grown-holds (s .args .g) (s .args .reg .now) (s .args .run .now) (rectangle (s .args .g) (s .args .reg .now) (getD (s .args .run .now) 0 0)) (c .before .loop .b) (c .before .loop .inv .near) e)
 
 pub box-of-spec : {M : Type 1} → statement M
 box-of-spec =
