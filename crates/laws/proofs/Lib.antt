@@ -11,11 +11,11 @@ pub mod Same
 pub mod Machine
 pub mod Computed
 pub mod Remaining
-pub mod Rising
-pub mod Forced
-pub mod Scans
 pub mod Lexicographic
 pub mod Choices
 pub mod Totals
 pub mod Lines
 pub mod Pairs
+pub mod Rising
+pub mod Forced
+pub mod Scans
