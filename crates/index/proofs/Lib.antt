@@ -7,3 +7,4 @@ pub mod Pairs
 pub mod Made
 pub mod Verdict
 pub mod Right
+pub mod Limits

@@ -1,5 +1,5 @@
 -- `index::compare::is_built` meets its contract: what is found right is what the build leaves. Assumes nothing.
-use mathlib.Core.Path.{_≡_, sym, ap, _∙_}
+use mathlib.Core.Path.{_≡_, ap, _∙_}
 use Prim.Native.Nat.{ℕ, _-_}
 use lib.ListN.{length, getD}
 use Rattle.rules.specs.Tables.{runs, builtEntries}
@@ -24,7 +24,7 @@ shared-slice-read-if1 : tie.Need-shared-slice-read-if1
 shared-slice-read-if1 c = search needs
 
 returns : tie.Need-returns
-returns c = wrong-first (c .before .before .before .before .before .args .g) (c .before .before .before .before .before .args .reg .now) (c .before .before .before .before .before .args .starts .now) (c .before .before .before .before .before .args .entries .now) (c .before .before .before .before .before .pre .0 .4) (c .if1 .taken)
+returns c = wrong-first (c .before .before .before .before .before .args .g) (c .before .before .before .before .before .args .reg .now) (c .before .before .before .before .before .args .starts .now) (c .before .before .before .before .before .args .entries .now) (c .before .before .before .before .before .pre .0 .4) (λ e. omega (arith, c .if1 .taken))
 
 mul-wide : tie.Need-mul-wide
 mul-wide c = search needs
@@ -39,13 +39,13 @@ total-requires : tie.Need-total-requires
 total-requires c κs = (c .before .before .before .before .before .before .before .pre .1 .0, λ i h. within-64 _ _ _ (c .before .before .before .before .before .before .before .pre .1 .1 i h))
 
 returns-2 : tie.Need-returns-2
-returns-2 c = wrong-last (c .before .before .before .before .before .before .before .before .before .args .g) (c .before .before .before .before .before .before .before .before .before .args .reg .now) (c .before .before .before .before .before .before .before .before .before .args .starts .now) (c .before .before .before .before .before .before .before .before .before .args .entries .now) (c .before .before .before .before .before .before .before .before .before .pre .0 .4) (λ e. c .if2 .taken (last (c .before .before) ∙ e ∙ sym (need (c .before))))
+returns-2 c = wrong-last (c .before .before .before .before .before .before .before .before .before .args .g) (c .before .before .before .before .before .before .before .before .before .args .reg .now) (c .before .before .before .before .before .before .before .before .before .args .starts .now) (c .before .before .before .before .before .before .before .before .before .args .entries .now) (c .before .before .before .before .before .before .before .before .before .pre .0 .4) (λ e. omega (arith, c .if2 .taken, last (c .before .before), need (c .before)))
 
 runs-right-requires : tie.Need-runs-right-requires
 runs-right-requires c κs = c .before .before .before .before .before .before .before .before .before .pre .0
 
 returns-3 : tie.Need-returns-3
-returns-3 c = c .runs-right .ensures ∙ runs-decide (c .before .before .before .before .before .before .before .before .before .before .args .g) (c .before .before .before .before .before .before .before .before .before .before .args .reg .now) (c .before .before .before .before .before .before .before .before .before .before .args .starts .now) (c .before .before .before .before .before .before .before .before .before .before .args .entries .now) (c .before .before .before .before .before .before .before .before .before .before .pre .0 .4) (c .before .before .before .before .before .if1 .left) (sym (last (c .before .before .before)) ∙ c .before .if2 .left ∙ need (c .before .before))
+returns-3 c = c .runs-right .ensures ∙ runs-decide (c .before .before .before .before .before .before .before .before .before .before .args .g) (c .before .before .before .before .before .before .before .before .before .before .args .reg .now) (c .before .before .before .before .before .before .before .before .before .before .args .starts .now) (c .before .before .before .before .before .before .before .before .before .before .args .entries .now) (c .before .before .before .before .before .before .before .before .before .before .pre .0 .4) (omega (arith, c .before .before .before .before .before .if1 .left)) (omega (arith, c .before .if2 .left, last (c .before .before .before), need (c .before .before)))
 
 pub is-built-spec : {M : Type 1} → statement M
 is-built-spec =
