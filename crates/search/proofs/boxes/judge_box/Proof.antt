@@ -5,6 +5,7 @@ use Rattle.rules.specs.Distance.{point}
 use Rattle.rules.specs.Tables.{tables}
 use Rattle.rules.specs.Search.{readRuns}
 use Rattle.rules.proofs.Good.{good-sizes}
+use Rattle.search.specs.Reading.{rowMost}
 use Rattle.search.proofs.Entries.{near-point}
 use Rattle.search.proofs.Pieces.{PiecesLeft, pieces-on, pieces-bad, pieces-end}
 use Rattle.search.proofs.Tiles.{rowRuns, box-all}
@@ -14,7 +15,7 @@ use Rattle.search.proofs.boxes.judge_box.Tie as tie
 
 abbrev Inv-loop : tie.InvT-loop
 Inv-loop g reg starts entries q r lent₀ first last found₀ row₀ lent found row =
-    PiecesLeft g (tables reg starts entries) q r (readRuns g q r) (rowRuns g q r) 274877906944 0 lent₀ first last lent found row
+    PiecesLeft g (tables reg starts entries) q r (readRuns g q r) (rowRuns g q r) rowMost 0 lent₀ first last lent found row
 
 abbrev μ-loop : tie.MeasureT-loop
 μ-loop g reg starts entries q r lent₀ first last found₀ row₀ lent found row = last + 1 - row

@@ -5,7 +5,7 @@ use Rattle.rules.specs.Distance.{point}
 use Rattle.rules.specs.Tables.{tables}
 use Rattle.rules.specs.Box.{boxRow}
 use Rattle.rules.proofs.Good.{good-sizes}
-use Rattle.search.specs.Reading.{runsIn}
+use Rattle.search.specs.Reading.{tileMost, runsIn}
 use Rattle.search.proofs.Entries.{near-point}
 use Rattle.search.proofs.Pieces.{PiecesLeft, pieces-on, pieces-bad, pieces-end}
 use Rattle.search.proofs.Tiles.{columnRuns, row-all}
@@ -15,7 +15,7 @@ use Rattle.search.proofs.boxes.judge_row.Tie as tie
 
 abbrev Inv-loop : tie.InvT-loop
 Inv-loop g reg starts entries q r row count lent₀ first last found₀ col₀ lent found col =
-    PiecesLeft g (tables reg starts entries) q r (runsIn g q r (boxRow g q r row)) (columnRuns g q r row) 4294967296 count lent₀ first last lent found col
+    PiecesLeft g (tables reg starts entries) q r (runsIn g q r (boxRow g q r row)) (columnRuns g q r row) tileMost count lent₀ first last lent found col
 
 abbrev μ-loop : tie.MeasureT-loop
 μ-loop g reg starts entries q r row count lent₀ first last found₀ col₀ lent found col = last + 1 - col
