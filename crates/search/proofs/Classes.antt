@@ -11,12 +11,12 @@ use borrow.Author.Tests.{eqb-true, not-false}
 use Rattle.laws.specs.Lists.{filter, from}
 use Rattle.laws.proofs.Lists.{filter-append}
 use Rattle.laws.proofs.Tests.{clash}
-use Rattle.rules.specs.Sizes.{tileCount}
+use Rattle.rules.specs.Sizes.{mostEntries, tileCount}
 use Rattle.rules.specs.Tables.{Tables, runs, badStarts, goodRuns, tileRuns}
 use Rattle.rules.specs.Search.{allowedRun, allowedRuns}
 use Rattle.rules.specs.declared.Grid.{Grid}
 use Rattle.rules.specs.declared.Point.{Point}
-use Rattle.search.specs.Reading.{keepHit, Left, goodEntries, hitsIn, hitsOf, heldIn, Lies, Holds, JudgedEntries, JudgedRuns}
+use Rattle.search.specs.Reading.{tileMost, keepHit, Left, goodEntries, hitsIn, hitsOf, heldIn, Lies, Holds, JudgedEntries, JudgedRuns}
 use Rattle.search.specs.declared.Tally.{Tally}
 use Rattle.search.specs.declared.Held.{Held}
 use Rattle.search.proofs.Left.{left-same, left-on, left-bad, left-none}
@@ -81,7 +81,7 @@ pub record TileLeft (g : Grid) (t : Tables) (q : Point) (r tile c₀ : ℕ) (len
       (hitsOf g t q r (allowedRuns g q tile)) (hitsIn g (t .reg) q r (heldIn (t .entries) h) ++ hitsOf g t q r (runsFrom g q tile class)) c₀ (h .count) lent₀ lent
   pub lies : Lies (t .entries) h
   pub fine : h .bad ≡ false
-  pub few : h .count + (h .past - h .begin) ≤ c₀ + class * 268435456
+  pub few : h .count + (h .past - h .begin) ≤ c₀ + class * mostEntries
   pub sized : length lent ≡ length lent₀
   pub most : class ≤ 16
 
@@ -130,7 +130,7 @@ module _ {g : Grid} {t : Tables} {q : Point} {r tile c₀ : ℕ} {lent₀ : List
         most = omega arith;
       }
 
-      pub tile-bad : h′ .bad ≡ true → (l : List ℕ) → JudgedRuns g t q r (allowedRuns g q tile) 4294967296 c₀ lent₀ (tally 0 true) l
+      pub tile-bad : h′ .bad ≡ true → (l : List ℕ) → JudgedRuns g t q r (allowedRuns g q tile) tileMost c₀ lent₀ (tally 0 true) l
       tile-bad e l = record {
         when-bad = λ _. left-bad (goodLeft (class + 1)) (p .left) good-next (s .when-bad e);
         when-good = λ f. clash f;
@@ -140,7 +140,7 @@ module _ {g : Grid} {t : Tables} {q : Point} {r tile c₀ : ℕ} {lent₀ : List
     -- the part that is held back at the end is read
     pub tile-end : 16 ≤ class → {y : Tally} {lent′ : List ℕ}
         → JudgedEntries g (t .reg) q r (heldIn (t .entries) h) (h .past - h .begin) (h .count) lent y lent′
-        → JudgedRuns g t q r (allowedRuns g q tile) 4294967296 c₀ lent₀ y lent′
+        → JudgedRuns g t q r (allowedRuns g q tile) tileMost c₀ lent₀ y lent′
     unfolding goodRuns
     tile-end k j = record {
       when-bad = λ e. left-bad (goodLeft class) (p .left) refl (j .when-bad e);

@@ -7,6 +7,7 @@ use native.Mathlib.Nat.{add-zero, mul-le-mul}
 use native.Mathlib.Omega.{arith}
 use borrow.Author.Tests.{le-leb, lt-leb}
 use Rattle.laws.proofs.Tests.{clash}
+use Rattle.rules.specs.Sizes.{mostTiles, mostSide}
 use Rattle.rules.specs.Distance.{within, point}
 use Rattle.rules.specs.Register.{count, rectangle, badSpan, badFootprint, badEntry}
 use Rattle.rules.specs.Search.{isHit}
@@ -25,8 +26,8 @@ tally c b = record { count = c; bad = b }
 
 module _ (g : Grid) (q : Point) (ok : Placed g q) where
   -- all coordinates are below 64×16,384
-  pub coordinates-most : g .n * g .side ≤ 1048576
-  coordinates-most = let s = good-sizes g (ok .sizes) in mul-le-mul {n₂ = 64} {m₂ = 16384} (s .n-most) (s .side-most)
+  pub coordinates-most : g .n * g .side ≤ mostTiles * mostSide
+  coordinates-most = let s = good-sizes g (ok .sizes) in mul-le-mul {n₂ = mostTiles} {m₂ = mostSide} (s .n-most) (s .side-most)
 
   pub near-point : Near (point q)
   unfolding point

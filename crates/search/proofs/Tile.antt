@@ -11,6 +11,7 @@ use Rattle.laws.specs.Lists.{each, part}
 use Rattle.laws.proofs.Lists.{filter-append, each-append}
 use Rattle.laws.proofs.Parts.{all-append, part-joined}
 use Rattle.laws.proofs.Tests.{clash, neither}
+use Rattle.rules.specs.Sizes.{mostEntries}
 use Rattle.rules.specs.Register.{badEntry}
 use Rattle.rules.specs.Tables.{Tables, runStart, runEnd, runAt, badEnds, goodRun, goodRuns}
 use Rattle.rules.specs.Search.{isHit}
@@ -50,10 +51,10 @@ module _ (g : Grid) (t : Tables) (q : Point) (r : ℕ) where
     unfolding goodRuns goodRun runAt
     run-good b = rw (← ea, ← ee, b) (and-true (goodEntries g (t .reg) (part (t .entries) a e)))
 
-    good-ends : badEnds (length (t .entries)) a e ≡ false → (a ≤ e) × (e ≤ length (t .entries)) × (e ≤ 268435456)
+    good-ends : badEnds (length (t .entries)) a e ≡ false → (a ≤ e) × (e ≤ length (t .entries)) × (e ≤ mostEntries)
     unfolding badEnds
     good-ends b =
-        let u = neither (ltb e a || ltb (length (t .entries)) e) (ltb 268435456 e) b in
+        let u = neither (ltb e a || ltb (length (t .entries)) e) (ltb mostEntries e) b in
         let v = neither (ltb e a) (ltb (length (t .entries)) e) (u .0) in
         (ltb-false _ _ (v .0), ltb-false _ _ (v .1), ltb-false _ _ (u .1))
 

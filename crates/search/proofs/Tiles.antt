@@ -21,7 +21,7 @@ use Rattle.rules.proofs.Good.{good-sizes, on-grid}
 use Rattle.rules.proofs.Report.{column-again, row-again}
 use Rattle.rules.proofs.Box.{first-last, last-inside, visits-at, visited-box}
 use Rattle.grid.specs.Places.{isOn}
-use Rattle.search.specs.Reading.{Placed, Allows, runsIn, JudgedRuns}
+use Rattle.search.specs.Reading.{tileMost, Placed, Allows, runsIn, JudgedRuns}
 use Rattle.search.specs.declared.Tally.{Tally}
 use Rattle.search.proofs.Left.{left-all}
 use Rattle.search.proofs.Entries.{tally}
@@ -39,15 +39,15 @@ module _ (g : Grid) (q : Point) (r : ℕ) (ok : Placed g q) (row col : ℕ) (ins
 
   module _ (t : Tables) (x y : Span) (e : x ≡ cover (g .side) col) (f : y ≡ cover (g .side) row) (b : Bool) (h : b ≡ within r (point q) (record { x = x; y = y })) where
     -- a tile that is too far is not read
-    pub tile-far : b ≡ false → (c : ℕ) (lent : List ℕ) → JudgedRuns g t q r (runsIn g q r (tileNo g row col ∷ [])) 4294967296 c lent (tally c false) lent
+    pub tile-far : b ≡ false → (c : ℕ) (lent : List ℕ) → JudgedRuns g t q r (runsIn g q r (tileNo g row col ∷ [])) tileMost c lent (tally c false) lent
     unfolding runsIn goodRuns
     tile-far d c lent =
         rw (is-visited x y e f b h ∙ d) (record { when-bad = λ z. clash (sym z); when-good = λ _. left-all _ _ c lent; few = omega arith })
 
     -- of one that is near the allowed classes are
     pub tile-near : b ≡ true → (c : ℕ) (lent₀ : List ℕ) (z : Tally) (lent : List ℕ) (tile : ℕ) → tile ≡ tileNo g row col
-        → JudgedRuns g t q r (allowedRuns g q tile) 4294967296 c lent₀ z lent
-        → JudgedRuns g t q r (runsIn g q r (tileNo g row col ∷ [])) 4294967296 c lent₀ z lent
+        → JudgedRuns g t q r (allowedRuns g q tile) tileMost c lent₀ z lent
+        → JudgedRuns g t q r (runsIn g q r (tileNo g row col ∷ [])) tileMost c lent₀ z lent
     unfolding runsIn
     tile-near d c lent₀ z lent tile same j =
         rw (is-visited x y e f b h ∙ d, append-nil (allowedRuns g q (tileNo g row col))) (rw same at j)

@@ -22,7 +22,7 @@ use Rattle.rules.specs.declared.Answer.{Answer}
 use Rattle.rules.specs.declared.Answer.the-variants.{Done, Refused}
 use Rattle.rules.specs.declared.Refusal.{Refusal}
 use Rattle.rules.specs.declared.Refusal.the-variants.{Sizes, Lengths, Place, Radius, Damage, Room}
-use Rattle.search.specs.Reading.{Ready, kept, JudgedRuns}
+use Rattle.search.specs.Reading.{boxMost, Ready, kept, JudgedRuns}
 use Rattle.search.specs.Judged.{judged, Counted, Writable}
 use Rattle.search.specs.declared.Tally.{Tally}
 use Rattle.search.proofs.Left.{writes-are, kept-fits}
@@ -42,7 +42,7 @@ module _ (g : Grid) (t : Tables) (q : Point) (r : ℕ) where
   unfolding badLengths
   lengths-are b e = sym e
 
-  pub ready : badSizes g ≡ false → badLengths g t ≡ false → badPoint g q ≡ false → r ≤ 2097151 → Ready g (t .starts) q r
+  pub ready : badSizes g ≡ false → badLengths g t ≡ false → badPoint g q ≡ false → r ≤ mostRadius → Ready g (t .starts) q r
   unfolding badLengths
   ready a b c d = record {
     placed = record { sizes = a; point = c };
@@ -82,14 +82,14 @@ module _ {g : Grid} {t : Tables} {q : Point} {r : ℕ} {lent₀ lent : List ℕ}
       refused-place c = refused Place (rw (a, b, c))
 
       module _ (c : badPoint g q ≡ false) where
-        pub refused-radius : 2097151 < r → Counted g t q r lent₀ (Refused Radius) lent
+        pub refused-radius : mostRadius < r → Counted g t q r lent₀ (Refused Radius) lent
         unfolding searchVerdict
-        refused-radius d = refused Radius (rw (a, b, c, lt-ltb 2097151 r d))
+        refused-radius d = refused Radius (rw (a, b, c, lt-ltb mostRadius r d))
 
-        module _ (d : r ≤ 2097151) {y : Tally} (j : JudgedRuns g t q r (readRuns g q r) 17592186044416 0 lent₀ y lent) where
+        module _ (d : r ≤ mostRadius) {y : Tally} (j : JudgedRuns g t q r (readRuns g q r) boxMost 0 lent₀ y lent) where
           pub refused-damage : y .bad ≡ true → Counted g t q r lent₀ (Refused Damage) lent
           unfolding searchVerdict
-          refused-damage e = refused Damage (rw (a, b, c, le-ltb 2097151 r d, j .when-bad e))
+          refused-damage e = refused Damage (rw (a, b, c, le-ltb mostRadius r d, j .when-bad e))
 
           -- ---- accepted
 
@@ -98,14 +98,14 @@ module _ {g : Grid} {t : Tables} {q : Point} {r : ℕ} {lent₀ lent : List ℕ}
           accepted e =
               let p = j .when-good e in
               let n : y .count ≡ length (radiusHits g t q r) = omega (arith, p .counts) in
-              let v : searchVerdict g t q r ≡ pass = rw (a, b, c, le-ltb 2097151 r d, p .still) in
+              let v : searchVerdict g t q r ≡ pass = rw (a, b, c, le-ltb mostRadius r d, p .still) in
               record { answer = rw v (ap Done n); first = λ _. p .keeps }
 
 module _ (g : Grid) (t : Tables) (q : Point) (r : ℕ) where
   -- ---- read again where all hits find room
 
   pub read-again : searchVerdict g t q r ≡ pass → (y : Tally) (out₀ out : List ℕ) → length (radiusHits g t q r) ≤ length out₀
-      → JudgedRuns g t q r (readRuns g q r) 17592186044416 0 out₀ y out → out ≡ over (each (hitWrites g (t .reg) q) (radiusHits g t q r)) out₀
+      → JudgedRuns g t q r (readRuns g q r) boxMost 0 out₀ y out → out ≡ over (each (hitWrites g (t .reg) q) (radiusHits g t q r)) out₀
   unfolding radiusHits kept
   read-again v y out₀ out room j =
       by-bool (y .bad)

@@ -6,7 +6,7 @@ use Prim.Native.Nat.{ℕ, _+_, _-_, _*_, _≤_, _<_}
 use lib.ListN.{length}
 use lib.Seq.{sets}
 use Rattle.laws.specs.Lists.{filter, each, all, part}
-use Rattle.rules.specs.Sizes.{badSizes, badPoint}
+use Rattle.rules.specs.Sizes.{mostTiles, mostEntries, mostRadius, badSizes, badPoint}
 use Rattle.rules.specs.Register.{badEntry}
 use Rattle.rules.specs.Tables.{Tables, badStarts, runAt, goodRuns}
 use Rattle.rules.specs.Search.{allowedRun, allowedRuns, visits, isHit, hitWrites}
@@ -27,7 +27,17 @@ pub record Placed (g : Grid) (q : Point) : Type 0 where
 pub record Ready (g : Grid) (starts : List ℕ) (q : Point) (r : ℕ) : Type 0 where
   pub placed : Placed g q
   pub lengths : badStarts g starts ≡ false
-  pub radius : r ≤ 2097151
+  pub radius : r ≤ mostRadius
+
+-- the most entries that a tile's runs, a row's and the box's can have
+abbrev pub tileMost : ℕ
+tileMost = 16 * mostEntries
+
+abbrev pub rowMost : ℕ
+rowMost = mostTiles * tileMost
+
+abbrev pub boxMost : ℕ
+boxMost = mostTiles * rowMost
 
 -- a mask has exactly the classes that are allowed in a tile
 pub record Allows (g : Grid) (q : Point) (tile mask : ℕ) : Type 0 where
@@ -98,4 +108,4 @@ pub record Holds (g : Grid) (t : Tables) (q : Point) (r : ℕ) (ks : List ℕ) (
       → Left (keepHit g (t .reg) q) (goodEntries g (t .reg) (heldIn (t .entries) h₀) && goodRuns g t ks) (goodEntries g (t .reg) (heldIn (t .entries) h))
       (hitsIn g (t .reg) q r (heldIn (t .entries) h₀) ++ hitsOf g t q r ks) (hitsIn g (t .reg) q r (heldIn (t .entries) h)) (h₀ .count) (h .count) lent₀ lent
   pub lies : Lies (t .entries) h
-  pub few : h .count + (h .past - h .begin) ≤ h₀ .count + (h₀ .past - h₀ .begin) + 268435456
+  pub few : h .count + (h .past - h .begin) ≤ h₀ .count + (h₀ .past - h₀ .begin) + mostEntries

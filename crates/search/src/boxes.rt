@@ -5,11 +5,12 @@ use crate::runs;
 use rules::Grid;
 use rules::Point;
 ghost use mathlib.Core.Path.{_≡_};
-ghost use Prim.Native.Nat.{_≤_, _<_};
+ghost use Prim.Native.Nat.{_*_, _≤_, _<_, _^_};
+ghost use Rattle.rules.specs.Sizes.{mostTiles, mostSide, mostRadius};
 ghost use Rattle.rules.specs.Tables.{tables};
 ghost use Rattle.rules.specs.Search.{readRuns};
 ghost use Rattle.rules.specs.Box.{firstColumn, lastColumn, boxRow};
-ghost use Rattle.search.specs.Reading.{Ready, runsIn, JudgedRuns};
+ghost use Rattle.search.specs.Reading.{boxMost, rowMost, Ready, runsIn, JudgedRuns};
 
 // The first column within r of a coordinate.
 fn first_column(g: Grid, r: u32, x: u32) -> u32
@@ -23,7 +24,7 @@ fn first_column(g: Grid, r: u32, x: u32) -> u32
 
 // The last column within r of a coordinate.
 fn last_column(g: Grid, r: u32, x: u32) -> u32
-    requires { ⌜ (1 ≤ g .n) × (x ≤ 1048576) × (r ≤ 2097151) ⌝ }
+    requires { ⌜ (1 ≤ g .n) × (x ≤ mostTiles * mostSide) × (r ≤ mostRadius) ⌝ }
     ensures { λ c. ⌜ c ≡ lastColumn g r x ⌝ }
 {
     let c = grid::column(g, x + r);
@@ -47,8 +48,8 @@ fn judge_row(
 ) -> Tally
     requires { ⌜ Ready g (now starts) q r ⌝ }
     requires { ⌜ row < g .n ⌝ }
-    requires { ⌜ count < 2305843009213693952 ⌝ }
-    ensures { λ t. ⌜ JudgedRuns g (tables (now (reg .entry)) (now (starts .entry)) (now (entries .entry))) q r (runsIn g q r (boxRow g q r row)) 274877906944 count (now (lent .entry)) t (now (lent .exit)) ⌝ }
+    requires { ⌜ count < 2 ^ 61 ⌝ }
+    ensures { λ t. ⌜ JudgedRuns g (tables (now (reg .entry)) (now (starts .entry)) (now (entries .entry))) q r (runsIn g q r (boxRow g q r row)) rowMost count (now (lent .entry)) t (now (lent .exit)) ⌝ }
 {
     let first = first_column(g, r, q.x);
     let last = last_column(g, r, q.x);
@@ -79,7 +80,7 @@ pub(crate) fn judge_box(
     lent: &mut [u32],
 ) -> Tally
     requires { ⌜ Ready g (now starts) q r ⌝ }
-    ensures { λ t. ⌜ JudgedRuns g (tables (now (reg .entry)) (now (starts .entry)) (now (entries .entry))) q r (readRuns g q r) 17592186044416 0 (now (lent .entry)) t (now (lent .exit)) ⌝ }
+    ensures { λ t. ⌜ JudgedRuns g (tables (now (reg .entry)) (now (starts .entry)) (now (entries .entry))) q r (readRuns g q r) boxMost 0 (now (lent .entry)) t (now (lent .exit)) ⌝ }
 {
     let first = first_column(g, r, q.y);
     let last = last_column(g, r, q.y);

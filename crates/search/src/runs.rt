@@ -9,13 +9,13 @@ use rules::Rect;
 ghost use mathlib.Core.Path.{_≡_};
 ghost use mathlib.Core.Bool.{false};
 ghost use mathlib.Core.List.{[], _∷_};
-ghost use Prim.Native.Nat.{_+_, _-_, _*_, _<_};
+ghost use Prim.Native.Nat.{_+_, _-_, _*_, _<_, _^_};
 ghost use lib.ListN.{length};
 ghost use Rattle.laws.specs.Lists.{filter};
 ghost use Rattle.rules.specs.Sizes.{tileNo, tileCount};
 ghost use Rattle.rules.specs.Tables.{tables};
 ghost use Rattle.rules.specs.Search.{allowedRun, allowedRuns};
-ghost use Rattle.search.specs.Reading.{Placed, Ready, Allows, runsIn, JudgedRuns, Lies, Holds};
+ghost use Rattle.search.specs.Reading.{tileMost, Placed, Ready, Allows, runsIn, JudgedRuns, Lies, Holds};
 
 // Run k, behind a part of the entries that is held back: it joins the part where it begins at the part's end; else the part is read, and the
 // run is held back in its place.
@@ -33,7 +33,7 @@ fn hold(
     requires { ⌜ Placed g q ⌝ }
     requires { ⌜ k + 1 < length (now starts) ⌝ }
     requires { ⌜ Lies (now entries) held ⌝ }
-    requires { ⌜ held .count + (held .past - held .begin) < 9223372036854775807 ⌝ }
+    requires { ⌜ held .count + (held .past - held .begin) < 2 ^ 63 ⌝ }
     ensures { λ h. ⌜ Holds g (tables (now (reg .entry)) (now (starts .entry)) (now (entries .entry))) q r (k ∷ []) held (now (lent .entry)) h (now (lent .exit)) ⌝ }
 {
     let a = scan::wide(starts[k]);
@@ -84,7 +84,7 @@ fn hold_class(
     requires { ⌜ Allows g q tile mask ⌝ }
     requires { ⌜ Lies (now entries) held ⌝ }
     requires { ⌜ held .bad ≡ false ⌝ }
-    requires { ⌜ held .count + (held .past - held .begin) < 9223372036854775807 ⌝ }
+    requires { ⌜ held .count + (held .past - held .begin) < 2 ^ 63 ⌝ }
     ensures { λ h. ⌜ Holds g (tables (now (reg .entry)) (now (starts .entry)) (now (entries .entry))) q r (filter (allowedRun g q) ((16 * tile + class) ∷ [])) held (now (lent .entry)) h (now (lent .exit)) ⌝ }
 {
     if !grid::is_on(mask, class) {
@@ -110,8 +110,8 @@ pub(crate) fn judge_tile(
     requires { ⌜ Ready g (now starts) q r ⌝ }
     requires { ⌜ tile < tileCount g ⌝ }
     requires { ⌜ Allows g q tile mask ⌝ }
-    requires { ⌜ count < 4611686018427387904 ⌝ }
-    ensures { λ t. ⌜ JudgedRuns g (tables (now (reg .entry)) (now (starts .entry)) (now (entries .entry))) q r (allowedRuns g q tile) 4294967296 count (now (lent .entry)) t (now (lent .exit)) ⌝ }
+    requires { ⌜ count < 2 ^ 62 ⌝ }
+    ensures { λ t. ⌜ JudgedRuns g (tables (now (reg .entry)) (now (starts .entry)) (now (entries .entry))) q r (allowedRuns g q tile) tileMost count (now (lent .entry)) t (now (lent .exit)) ⌝ }
 {
     let mut held = Held {
         begin: 0,
@@ -150,8 +150,8 @@ pub(crate) fn judge_at(
 ) -> Tally
     requires { ⌜ Ready g (now starts) q r ⌝ }
     requires { ⌜ (row < g .n) × (col < g .n) ⌝ }
-    requires { ⌜ count < 4611686018427387904 ⌝ }
-    ensures { λ t. ⌜ JudgedRuns g (tables (now (reg .entry)) (now (starts .entry)) (now (entries .entry))) q r (runsIn g q r (tileNo g row col ∷ [])) 4294967296 count (now (lent .entry)) t (now (lent .exit)) ⌝ }
+    requires { ⌜ count < 2 ^ 62 ⌝ }
+    ensures { λ t. ⌜ JudgedRuns g (tables (now (reg .entry)) (now (starts .entry)) (now (entries .entry))) q r (runsIn g q r (tileNo g row col ∷ [])) tileMost count (now (lent .entry)) t (now (lent .exit)) ⌝ }
 {
     let side = g.side;
     let x = grid::cover(side, col);

@@ -7,7 +7,7 @@ use rules::Rect;
 use rules::Span;
 ghost use mathlib.Core.Path.{_≡_};
 ghost use mathlib.Core.List.{[], _∷_};
-ghost use Prim.Native.Nat.{_+_, _-_, _*_, _≤_, _<_};
+ghost use Prim.Native.Nat.{_+_, _-_, _*_, _≤_, _<_, _^_};
 ghost use lib.ListN.{length};
 ghost use Rattle.laws.specs.Lists.{part};
 ghost use Rattle.rules.specs.Distance.{within as withinIs, point};
@@ -57,7 +57,7 @@ fn judge_entry(
     lent: &mut [u32],
 ) -> Tally
     requires { ⌜ Placed g q ⌝ }
-    requires { ⌜ count < 9223372036854775807 ⌝ }
+    requires { ⌜ count < 2 ^ 63 ⌝ }
     ensures { λ t. ⌜ JudgedEntries g (now (reg .entry)) q r (i ∷ []) 1 count (now (lent .entry)) t (now (lent .exit)) ⌝ }
 {
     let at = wide(i);
@@ -109,7 +109,7 @@ pub(crate) fn judge_part(
 ) -> Tally
     requires { ⌜ Placed g q ⌝ }
     requires { ⌜ past ≤ length (now entries) ⌝ }
-    requires { ⌜ count + (past - begin) < 9223372036854775807 ⌝ }
+    requires { ⌜ count + (past - begin) < 2 ^ 63 ⌝ }
     ensures { λ t. ⌜ JudgedEntries g (now (reg .entry)) q r (part (now (entries .entry)) begin past) (past - begin) count (now (lent .entry)) t (now (lent .exit)) ⌝ }
 {
     let mut found = count;

@@ -2,6 +2,7 @@
 use mathlib.Core.Path.{sym, _∙_}
 use Rattle.rules.specs.Tables.{tables, runStart, runEnd}
 use Rattle.search.proofs.Tile.{hold-damaged, hold-joined, hold-next}
+use native.Mathlib.Omega.{arith}
 use borrow.Author.Needs.{needs}
 use Rattle.search.proofs.runs.hold.Statement.{statement}
 use Rattle.search.proofs.runs.hold.Tie as tie
@@ -42,7 +43,7 @@ unfolding runStart runEnd
 returns-2 c =
     let a = c .before .before .before .before .before .before .before .before .before .before .before .args in
     hold-joined (a .g) (tables (a .reg .now) (a .starts .now) (a .entries .now)) (a .q) (a .r) (a .k) (c .before .before .before .before .before .wide .result) (c .before .before .before .wide2 .result) (c .before .before .before .before .before .wide .ensures) (c .before .before .before .wide2 .ensures) (a .held) (a .lent .now) (a .lent .now)
-    (sym (c .before .before .bad-ends .ensures) ∙ c .before .if1 .left) (c .before .before .before .before .before .before .before .before .before .before .before .pre .1 .1 .0) (c .if2 .taken)
+    (sym (c .before .before .bad-ends .ensures) ∙ c .before .if1 .left) (c .before .before .before .before .before .before .before .before .before .before .before .pre .1 .1 .0) (omega arith)
 
 judge-part-requires : tie.Need-judge-part-requires
 judge-part-requires c κs = search needs

@@ -25,7 +25,7 @@ same-length : tie.Need-same-length Inv-loop μ-loop
 same-length c = let s = c .before .before .before .hold-class .kept in omega arith
 
 returns : tie.Need-returns Inv-loop μ-loop
-returns c = tile-bad (c .before .before .before .before .before .before .loop .inv) (c .before .before .before .before .before .loop-test .taken) (c .before .before .before .hold-class .ensures) (c .if1 .taken) _
+returns c = tile-bad (c .before .before .before .before .before .before .loop .inv) (omega arith) (c .before .before .before .hold-class .ensures) (c .if1 .taken) _
 
 add-class : tie.Need-add-class Inv-loop μ-loop
 add-class c = omega arith
@@ -34,7 +34,7 @@ loop-less : tie.Need-loop-less Inv-loop μ-loop
 loop-less c = omega arith
 
 loop-again : tie.Need-loop-again Inv-loop μ-loop
-loop-again c = tile-on (c .before .before .before .before .before .before .loop .inv) (c .before .before .before .before .before .loop-test .taken) (c .before .before .before .hold-class .ensures) (c .if1 .left) (c .before .before .before .hold-class .kept .1 .1 .1 .1 .1 .1 .1 .1 .1 .1 .0)
+loop-again c = tile-on (c .before .before .before .before .before .before .loop .inv) (omega arith) (c .before .before .before .hold-class .ensures) (c .if1 .left) (c .before .before .before .hold-class .kept .1 .1 .1 .1 .1 .1 .1 .1 .1 .1 .0)
 
 judge-part-requires : tie.Need-judge-part-requires Inv-loop μ-loop
 judge-part-requires c κs =
@@ -47,7 +47,7 @@ same-length-2 : tie.Need-same-length-2 Inv-loop μ-loop
 same-length-2 c = let s = c .before .before .before .before .before .loop .inv .sized in omega arith
 
 returns-2 : tie.Need-returns-2 Inv-loop μ-loop
-returns-2 c = tile-end (c .before .before .before .before .before .loop .inv) (c .before .before .before .before .loop-test .left) (c .before .before .judge-part .ensures)
+returns-2 c = tile-end (c .before .before .before .before .before .loop .inv) (omega arith) (c .before .before .judge-part .ensures)
 
 pub judge-tile-spec : {M : Type 1} → statement M
 judge-tile-spec =

@@ -27,7 +27,7 @@ same-length : tie.Need-same-length Inv-loop μ-loop
 same-length c = let s = c .before .before .before .judge-entry .kept in omega arith
 
 returns : tie.Need-returns Inv-loop μ-loop
-returns c = part-bad (c .before .before .before .before .before .before .before .loop .inv) (c .before .before .before .before .before .before .loop-test .taken) (c .before .before .before .before .before .before .before .before .before .before .before .pre .1 .0) (c .before .before .before .judge-entry .ensures) (c .if1 .taken) _
+returns c = part-bad (c .before .before .before .before .before .before .before .loop .inv) (omega arith) (c .before .before .before .before .before .before .before .before .before .before .before .pre .1 .0) (c .before .before .before .judge-entry .ensures) (c .if1 .taken) _
 
 add-i : tie.Need-add-i Inv-loop μ-loop
 add-i c = omega arith
@@ -36,13 +36,13 @@ loop-less : tie.Need-loop-less Inv-loop μ-loop
 loop-less c = omega arith
 
 loop-again : tie.Need-loop-again Inv-loop μ-loop
-loop-again c = part-on (c .before .before .before .before .before .before .before .loop .inv) (c .before .before .before .before .before .before .loop-test .taken) (c .before .before .before .before .before .before .before .before .before .before .before .pre .1 .0) (c .before .before .before .judge-entry .ensures) (c .if1 .left) (c .before .before .before .judge-entry .kept .1 .1 .1 .1 .1 .1 .0)
+loop-again c = part-on (c .before .before .before .before .before .before .before .loop .inv) (omega arith) (c .before .before .before .before .before .before .before .before .before .before .before .pre .1 .0) (c .before .before .before .judge-entry .ensures) (c .if1 .left) (c .before .before .before .judge-entry .kept .1 .1 .1 .1 .1 .1 .0)
 
 same-length-2 : tie.Need-same-length-2 Inv-loop μ-loop
 same-length-2 c = c .before .loop .inv .sized
 
 returns-2 : tie.Need-returns-2 Inv-loop μ-loop
-returns-2 c = part-end (c .before .loop .inv) (c .loop-test .left)
+returns-2 c = part-end (c .before .loop .inv) (omega arith)
 
 pub judge-part-spec : {M : Type 1} → statement M
 judge-part-spec =
