@@ -11,6 +11,7 @@ pub mod Same
 pub mod Machine
 pub mod Computed
 pub mod Remaining
+pub mod Passing
 pub mod Lexicographic
 pub mod Choices
 pub mod Totals
