@@ -21,7 +21,7 @@ use Rattle.rules.proofs.Good.{good-sizes}
 use Rattle.rules.proofs.JoinCode.{neighbours-by-position, run-pairs-by-two}
 use Rattle.grid.specs.Places.{position, isOn}
 use Rattle.join.specs.Keeping.{Kept, kept}
-use Rattle.join.specs.Levels.{positionOf, onePair, entryPairs, runsPairs, markedPairs, positionPairs, aroundPairs}
+use Rattle.join.specs.Levels.{positionOf, onePair, entryPairs, runsPairs, markedPairs, pairsAt, aroundPairs}
 
 -- ---- two runs
 
@@ -83,8 +83,8 @@ module _ (g : Grid) (sizes : badSizes g ≡ false) (tr ts : Tables) (r t u a : �
 -- ---- R's tile with S's tiles
 
 module _ (g : Grid) (sizes : badSizes g ≡ false) (tr ts : Tables) (r : ℕ) where
-  pub around-pairs : (t : ℕ) → t < tileCount g → aroundPairs g tr ts r t ≡ each (positionPairs g tr ts r t) (upTo 9)
-  unfolding aroundPairs positionPairs
+  pub around-pairs : (t : ℕ) → t < tileCount g → aroundPairs g tr ts r t ≡ each (pairsAt g tr ts r t) (upTo 9)
+  unfolding aroundPairs pairsAt
   around-pairs t h =
       ap (each (tilePairs g tr ts r t)) (neighbours-by-position g (good-sizes g sizes) t h)
       ∙ each-each (tilePairs g tr ts r t) (λ p. only (hasTile g t p) (tileAt g t p ∷ [])) (upTo 9)
@@ -99,13 +99,13 @@ unfolding joinPairs aroundPairs tiles
 join-pairs g tr ts r = refl
 
 module _ (g : Grid) (tr ts : Tables) (r t p : ℕ) where
-  pub position-pairs : (u : ℕ) → hasTile g t p ≡ true → u ≡ tileAt g t p → positionPairs g tr ts r t p ≡ tilePairs g tr ts r t u
-  unfolding positionPairs
-  position-pairs u e f = rw (e, f)
+  pub pairs-at : (u : ℕ) → hasTile g t p ≡ true → u ≡ tileAt g t p → pairsAt g tr ts r t p ≡ tilePairs g tr ts r t u
+  unfolding pairsAt
+  pairs-at u e f = rw (e, f)
 
-  pub no-position-pairs : hasTile g t p ≡ false → positionPairs g tr ts r t p ≡ []
-  unfolding positionPairs
-  no-position-pairs e = rw e
+  pub no-pairs-at : hasTile g t p ≡ false → pairsAt g tr ts r t p ≡ []
+  unfolding pairsAt
+  no-pairs-at e = rw e
 
 -- ---- nothing is kept of no pairs
 

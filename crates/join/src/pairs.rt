@@ -20,7 +20,7 @@ ghost use Rattle.rules.specs.Tables.{tables};
 ghost use Rattle.rules.specs.Join.{classPairs, tilePairs, joinPairs};
 ghost use Rattle.join.specs.Keeping.{state, kept, mostPairs};
 ghost use Rattle.join.specs.Boxes.{Holds};
-ghost use Rattle.join.specs.Levels.{goodEntries, Sound, Judged, positionOf, onePair, entryPairs, runsPairs, markedPairs, positionPairs, aroundPairs};
+ghost use Rattle.join.specs.Levels.{goodEntries, Sound, Judged, positionOf, onePair, entryPairs, runsPairs, markedPairs, pairsAt, aroundPairs};
 
 // R's number i and S's number j, where they are listed.
 fn of_two(
@@ -257,8 +257,8 @@ fn of_position(
     found: u64,
     out: &mut [u32],
 ) -> u64
-    requires { ⌜ Judged g (tables (now «reg_r») (now «starts_r») (now «entries_r»)) (tables (now «reg_s») (now «starts_s») (now «entries_s»)) × (t < tileCount g) × (p < 9) × (found + length (positionPairs g (tables (now «reg_r») (now «starts_r») (now «entries_r»)) (tables (now «reg_s») (now «starts_s») (now «entries_s»)) r t p) ≤ mostPairs) ⌝ }
-    ensures { λ c. ⌜ state c (now (out .exit)) ≡ kept (state found (now (out .entry))) (positionPairs g (tables (now («reg_r» .entry)) (now («starts_r» .entry)) (now («entries_r» .entry))) (tables (now («reg_s» .entry)) (now («starts_s» .entry)) (now («entries_s» .entry))) r t p) ⌝ }
+    requires { ⌜ Judged g (tables (now «reg_r») (now «starts_r») (now «entries_r»)) (tables (now «reg_s») (now «starts_s») (now «entries_s»)) × (t < tileCount g) × (p < 9) × (found + length (pairsAt g (tables (now «reg_r») (now «starts_r») (now «entries_r»)) (tables (now «reg_s») (now «starts_s») (now «entries_s»)) r t p) ≤ mostPairs) ⌝ }
+    ensures { λ c. ⌜ state c (now (out .exit)) ≡ kept (state found (now (out .entry))) (pairsAt g (tables (now («reg_r» .entry)) (now («starts_r» .entry)) (now («entries_r» .entry))) (tables (now («reg_s» .entry)) (now («starts_s» .entry)) (now («entries_s» .entry))) r t p) ⌝ }
 {
     if !has_tile(g, t, p) {
         return found;

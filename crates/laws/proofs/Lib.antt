@@ -15,6 +15,7 @@ pub mod Gather
 pub mod Filters
 pub mod Computed
 pub mod Remaining
+pub mod Passing
 pub mod Lexicographic
 pub mod Choices
 pub mod Totals

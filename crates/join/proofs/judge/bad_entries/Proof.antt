@@ -5,7 +5,7 @@ use mathlib.Core.Bool.{not}
 use Prim.Native.Nat.{_≤_, _-_}
 use lib.ListN.{length}
 use Rattle.rules.specs.Register.{badEntry}
-use Rattle.join.proofs.Judging.{LeftOf, left-bad, left-good, left-none}
+use Rattle.laws.proofs.Passing.{LeftOf, left-bad, left-good, left-none}
 use native.Mathlib.Omega.{arith}
 use Rattle.join.proofs.judge.bad_entries.Statement.{statement}
 use Rattle.join.proofs.judge.bad_entries.Tie as tie

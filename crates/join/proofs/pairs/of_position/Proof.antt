@@ -10,8 +10,8 @@ use Rattle.rules.specs.JoinSteps.{hasTile}
 use Rattle.rules.proofs.Good.{good-sizes}
 use Rattle.rules.proofs.JoinCode.{tile-at-below}
 use Rattle.join.specs.Keeping.{Kept, state, kept}
-use Rattle.join.specs.Levels.{positionPairs}
-use Rattle.join.proofs.Levels.{position-pairs, no-position-pairs, keeps-none}
+use Rattle.join.specs.Levels.{pairsAt}
+use Rattle.join.proofs.Levels.{pairs-at, no-pairs-at, keeps-none}
 use borrow.Author.Needs.{needs}
 use Rattle.join.proofs.pairs.of_position.Statement.{statement}
 use Rattle.join.proofs.pairs.of_position.Tie as tie
@@ -30,7 +30,7 @@ there c = sym (c .before .has-tile .ensures) ∙ not-false _ (c .if1 .left)
 
 -- the pairs with the tile that is there
 abbrev all-pairs : tie.Start → List Pair
-all-pairs s = positionPairs (s .args .g) (side-r s) (side-s s) (s .args .r) (s .args .t) (s .args .p)
+all-pairs s = pairsAt (s .args .g) (side-r s) (side-s s) (s .args .r) (s .args .t) (s .args .p)
 
 abbrev inner : tie.Start → ℕ → List Pair
 inner s u = tilePairs (s .args .g) (side-r s) (side-s s) (s .args .r) (s .args .t) u
@@ -38,7 +38,7 @@ inner s u = tilePairs (s .args .g) (side-r s) (side-s s) (s .args .r) (s .args .
 whole : (c : tie.After-tile-at) → all-pairs (c .before .before .before .before .before .before .before .before .before .before) ≡ inner (c .before .before .before .before .before .before .before .before .before .before) (c .tile-at .result)
 whole c =
     let s = c .before .before .before .before .before .before .before .before .before .before in
-    position-pairs (s .args .g) (side-r s) (side-s s) (s .args .r) (s .args .t) (s .args .p) (c .tile-at .result) (there (c .before)) (c .tile-at .ensures)
+    pairs-at (s .args .g) (side-r s) (side-s s) (s .args .r) (s .args .t) (s .args .p) (c .tile-at .result) (there (c .before)) (c .tile-at .ensures)
 
 has-tile-requires : tie.Need-has-tile-requires
 has-tile-requires c κs =
@@ -50,7 +50,7 @@ returns : tie.Need-returns
 returns c =
     let s = c .before .before .before .before .before .before .before .before .before in
     keeps-none (first s)
-    (no-position-pairs (s .args .g) (side-r s) (side-s s) (s .args .r) (s .args .t) (s .args .p) (sym (c .before .has-tile .ensures) ∙ not-true _ (c .if1 .taken)))
+    (no-pairs-at (s .args .g) (side-r s) (side-s s) (s .args .r) (s .args .t) (s .args .p) (sym (c .before .has-tile .ensures) ∙ not-true _ (c .if1 .taken)))
 
 tile-at-requires : tie.Need-tile-at-requires
 tile-at-requires c κs =

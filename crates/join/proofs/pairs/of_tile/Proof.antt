@@ -7,7 +7,7 @@ use Rattle.join.specs.Keeping.{Kept, state, kept, mostPairs}
 use Rattle.join.proofs.Loops.{OverRange, range-start, range-step, range-few, range-size, range-end}
 use Rattle.rules.specs.Tables.{Tables, tables}
 use Rattle.rules.specs.Join.{Pair}
-use Rattle.join.specs.Levels.{positionPairs, aroundPairs}
+use Rattle.join.specs.Levels.{pairsAt, aroundPairs}
 use Rattle.join.proofs.Levels.{around-pairs}
 use native.Mathlib.Omega.{arith}
 use Rattle.join.proofs.pairs.of_tile.Statement.{statement}
@@ -15,7 +15,7 @@ use Rattle.join.proofs.pairs.of_tile.Tie as tie
 
 abbrev Inv-loop : tie.InvT-loop
 Inv-loop g reg-r starts-r entries-r reg-s starts-s entries-s r t found out₀ pairs₀ p₀ out pairs p =
-    OverRange (positionPairs g (tables reg-r starts-r entries-r) (tables reg-s starts-s entries-s) r t) 9 (state found out₀) (state pairs out) p
+    OverRange (pairsAt g (tables reg-r starts-r entries-r) (tables reg-s starts-s entries-s) r t) 9 (state found out₀) (state pairs out) p
 
 abbrev μ-loop : tie.MeasureT-loop
 μ-loop g reg-r starts-r entries-r reg-s starts-s entries-s r t found out₀ pairs₀ p₀ out pairs p = 9 - p
@@ -35,7 +35,7 @@ here k = state (k .loop .pairs) (k .loop .out)
 
 -- the pairs of each turn, and of all of them
 abbrev inner : tie.Start Inv-loop μ-loop → ℕ → List Pair
-inner s = positionPairs (s .args .g) (side-r s) (side-s s) (s .args .r) (s .args .t)
+inner s = pairsAt (s .args .g) (side-r s) (side-s s) (s .args .r) (s .args .t)
 
 whole : (s : tie.Start Inv-loop μ-loop) → aroundPairs (s .args .g) (side-r s) (side-s s) (s .args .r) (s .args .t) ≡ each (inner s) (upTo 9)
 whole s = around-pairs (s .args .g) (s .pre .0 .sizes) (side-r s) (side-s s) (s .args .r) (s .args .t) (s .pre .1)
