@@ -1,29 +1,9 @@
 -- What sizes in their ranges bound: tiles, runs and coordinates. Assumes nothing.
-use mathlib.Core.Path.{_≡_}
-use mathlib.Core.Bool.{false}
 use Prim.Native.Nat.{ℕ, _+_, _*_, _≤_, _<_}
 use native.Mathlib.Nat.{mul-le-mul, mul-le-mul-right}
 use native.Mathlib.Omega.{arith}
-use lib.Dec.{ltb}
-use borrow.Author.Tests.{ltb-false}
-use Rattle.laws.proofs.Tests.{neither}
-use Rattle.rules.specs.Sizes.{mostTiles, mostSide, badSizes}
 use Rattle.rules.specs.declared.Grid.{Grid}
-use Rattle.grid.specs.Tiles.{Sized}
-
--- sizes that are not refused are in their ranges
-pub sized : (g : Grid) → badSizes g ≡ false → Sized g
-unfolding badSizes
-sized g h =
-    let a = neither _ (ltb mostSide (g .side)) h in
-    let b = neither _ (ltb (g .side) 1) (a .0) in
-    let d = neither (ltb (g .n) 1) (ltb mostTiles (g .n)) (b .0) in
-    record {
-      some = ltb-false (g .n) 1 (d .0);
-      tiles = ltb-false mostTiles (g .n) (d .1);
-      wide = ltb-false (g .side) 1 (b .1);
-      sides = ltb-false mostSide (g .side) (a .1);
-    }
+use Rattle.rules.proofs.Good.{GoodSizes}
 
 pub square-most : (n : ℕ) → n ≤ 64 → n * n ≤ 4096
 square-most n h = mul-le-mul h h
@@ -36,5 +16,5 @@ pub on-grid : (g : Grid) (r c : ℕ) → (g .n ≤ 64) × (r < g .n) × (c < g .
 on-grid g r c h = (below-square (g .n) r c (h .1) (h .2), square-most (g .n) (h .0))
 
 -- all coordinates are below 64×16,384
-pub coordinates-most : (g : Grid) → Sized g → g .n * g .side ≤ 1048576
-coordinates-most g s = mul-le-mul {n₂ = 64} {m₂ = 16384} (s .tiles) (s .sides)
+pub coordinates-most : (g : Grid) → GoodSizes g → g .n * g .side ≤ 1048576
+coordinates-most g s = mul-le-mul {n₂ = 64} {m₂ = 16384} (s .n-most) (s .side-most)

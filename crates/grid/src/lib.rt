@@ -78,6 +78,13 @@ pub fn column(g: Grid, c: u32) -> u32
     c / g.side
 }
 
+// How many tiles there are.
+pub fn tile_count(g: Grid) -> usize
+    ensures { λ r. ⌜ r ≡ tileCount g ⌝ }
+{
+    product(g.n, g.n) as usize
+}
+
 // The number of a tile on the grid.
 pub fn tile_no(g: Grid, row: u32, col: u32) -> u32
     requires { ⌜ (g .n ≤ 64) × (row < g .n) × (col < g .n) ⌝ }

@@ -9,6 +9,7 @@ pub mod Places
 pub mod Blocks
 pub mod Same
 pub mod Machine
+pub mod Remaining
 pub mod Lexicographic
 pub mod Choices
 pub mod Totals

@@ -1,0 +1,185 @@
+// The lent tables read and judged: the register and its footprints, the starts, and a run as a part of the entries.
+
+use rules::Ends;
+use rules::Grid;
+use rules::Rect;
+use rules::Refusal;
+use rules::Span;
+ghost use mathlib.Core.Path.{_≡_};
+ghost use mathlib.Core.List.{[]};
+ghost use Prim.Native.Nat.{ℕ, _+_, _*_, _≤_, _<_};
+ghost use lib.ListN.{length};
+ghost use Rattle.rules.specs.Register.{count as countIs, rectangle, badSpan, badFootprint, badFootprints, badEntry, badRegister};
+ghost use Rattle.rules.specs.Tables.{tables, badStarts, badLengths, badEnds};
+ghost use Rattle.rules.specs.Refusals.{paperEnds};
+ghost use Rattle.rules.specs.Build.{badRun, runEnds, handsBack};
+ghost use Rattle.tables.specs.First.{firstOr};
+
+fn wide(x: u32) -> usize
+    ensures { λ r. ⌜ r ≡ x ⌝ }
+{
+    x as usize
+}
+
+// How many footprints a register has.
+pub fn count(reg: &[u32]) -> usize
+    ensures { λ r. ⌜ r ≡ countIs (now (reg .entry)) ⌝ }
+{
+    reg.len() / 4
+}
+
+// Whether a register's length is no multiple of four, or it has too many footprints.
+pub fn bad_register(reg: &[u32]) -> bool
+    ensures { λ r. ⌜ r ≡ badRegister (now (reg .entry)) ⌝ }
+{
+    if reg.len() % 4 != 0 {
+        return true;
+    }
+    rules::MOST_FOOTPRINTS < count(reg)
+}
+
+// Whether there are not exactly 16×n²+1 starts.
+pub fn bad_starts(g: Grid, starts: &[u32]) -> bool
+    ensures { λ r. ⌜ r ≡ badStarts g (now (starts .entry)) ⌝ }
+{
+    let len = starts.len();
+    if len == 0 {
+        return true;
+    }
+    if (len - 1) % 16 != 0 {
+        return true;
+    }
+    (len - 1) / 16 != grid::tile_count(g)
+}
+
+// Whether the register or the starts have a wrong length.
+pub fn bad_lengths(g: Grid, reg: &[u32], starts: &[u32]) -> bool
+    ensures { λ r. ⌜ r ≡ badLengths g (tables (now (reg .entry)) (now (starts .entry)) []) ⌝ }
+{
+    if bad_register(reg) {
+        return true;
+    }
+    bad_starts(g, starts)
+}
+
+// The rectangle of footprint i.
+pub fn footprint(g: Grid, reg: &[u32], i: usize) -> Rect
+    requires { ⌜ i < countIs (now reg) ⌝ }
+    ensures { λ r. ⌜ r ≡ rectangle g (now (reg .entry)) i ⌝ }
+{
+    Rect {
+        x: Span {
+            lo: reg[4 * i],
+            hi: reg[4 * i + 2],
+        },
+        y: Span {
+            lo: reg[4 * i + 1],
+            hi: reg[4 * i + 3],
+        },
+    }
+}
+
+// Whether lo > hi, or hi is off the grid.
+pub fn bad_span(g: Grid, s: Span) -> bool
+    ensures { λ r. ⌜ r ≡ badSpan g s ⌝ }
+{
+    if s.hi < s.lo {
+        return true;
+    }
+    grid::off_grid(g, s.hi)
+}
+
+// Whether footprint i meets refusal 3.
+pub fn bad_footprint(g: Grid, reg: &[u32], i: usize) -> bool
+    requires { ⌜ i < countIs (now reg) ⌝ }
+    ensures { λ r. ⌜ r ≡ badFootprint g (now (reg .entry)) i ⌝ }
+{
+    let a = footprint(g, reg, i);
+    let x = a.x;
+    let y = a.y;
+    if bad_span(g, x) {
+        return true;
+    }
+    bad_span(g, y)
+}
+
+// Whether no entry may name footprint i.
+pub fn bad_entry(g: Grid, reg: &[u32], i: u32) -> bool
+    ensures { λ r. ⌜ r ≡ badEntry g (now (reg .entry)) i ⌝ }
+{
+    let at = wide(i);
+    if count(reg) <= at {
+        return true;
+    }
+    bad_footprint(g, reg, at)
+}
+
+// The lowest footprint that meets refusal 3, or the count where none does.
+pub fn first_bad(g: Grid, reg: &[u32]) -> usize
+    ensures { λ r. ⌜ r ≡ firstOr (countIs (now (reg .entry))) (badFootprints g (now (reg .entry))) ⌝ }
+{
+    let all = count(reg);
+    let mut i = 0;
+    while i < all {
+        if bad_footprint(g, reg, i) {
+            return i;
+        }
+        i += 1;
+    }
+    i
+}
+
+// Whether a run's two starts are damaged, among so many entries.
+pub fn bad_ends(entries: usize, from: usize, to: usize) -> bool
+    ensures { λ r. ⌜ r ≡ badEnds entries «from» to ⌝ }
+{
+    if to < from {
+        return true;
+    }
+    if entries < to {
+        return true;
+    }
+    rules::MOST_ENTRIES < to
+}
+
+// Whether there is no such tile or class.
+pub fn bad_run(g: Grid, tile: u32, class: u32) -> bool
+    ensures { λ r. ⌜ r ≡ badRun g tile class ⌝ }
+{
+    if grid::tile_count(g) <= wide(tile) {
+        return true;
+    }
+    16 <= class
+}
+
+// Where the run of a class in a tile begins and ends among so many entries, or why it is refused: 1, 2, 4 or 7.
+pub fn run_ends(g: Grid, starts: &[u32], entries: usize, tile: u32, class: u32) -> Ends
+    ensures { λ r. ⌜ paperEnds r ≡ runEnds g (now (starts .entry)) entries tile class ⌝ }
+{
+    if grid::bad_sizes(g) {
+        return Ends::Refused(Refusal::Sizes);
+    }
+    if bad_starts(g, starts) {
+        return Ends::Refused(Refusal::Lengths);
+    }
+    if bad_run(g, tile, class) {
+        return Ends::Refused(Refusal::Place);
+    }
+    let k = 16 * wide(tile) + wide(class);
+    let from = wide(starts[k]);
+    let to = wide(starts[k + 1]);
+    if bad_ends(entries, from, to) {
+        return Ends::Refused(Refusal::Damage);
+    }
+    Ends::At(from, to)
+}
+
+// The run of a class in a tile, as that part of the lent entries; for every refusal the empty part at their beginning.
+pub fn run<'a>(g: Grid, starts: &[u32], entries: &'a [u32], tile: u32, class: u32) -> &'a [u32]
+    ensures { λ r. ⌜ (r .ptr, now r) ≡ handsBack g (now (starts .entry)) (now (entries .entry)) tile class (entries .entry .ptr) ⌝ }
+{
+    match run_ends(g, starts, entries.len(), tile, class) {
+        Ends::At(from, to) => &entries[from..to],
+        Ends::Refused(_) => &entries[..0],
+    }
+}
