@@ -10,6 +10,8 @@ pub mod Blocks
 pub mod Same
 pub mod Machine
 pub mod Remaining
+pub mod Parts
+pub mod Stores
 pub mod Lexicographic
 pub mod Choices
 pub mod Totals

@@ -1,0 +1,39 @@
+-- `walk::take::take_footprint` meets its contract. Assumes nothing.
+use mathlib.Core.Path.{sym, ap, _∙_}
+use mathlib.Core.List.{List, _++_}
+use Prim.Native.Nat.{ℕ, _+_, _*_}
+use lib.ListN.{take, drop}
+use Rattle.rules.specs.Register.{badEntry}
+use Rattle.rules.specs.Walk.{rowNumbers, rowWrites}
+use Rattle.walk.proofs.Moves.{hand-bad, hand-fine}
+use borrow.Author.Needs.{needs}
+use Rattle.walk.proofs.take.take_footprint.Statement.{statement}
+use Rattle.walk.proofs.take.take_footprint.Tie as tie
+
+bad-entry-requires : tie.Need-bad-entry-requires
+bad-entry-requires c κs = search needs
+
+returns : tie.Need-returns
+returns c = λ t front er lt. hand-bad (c .before .before .before .before .args .g) t (c .before .before .before .before .args .q) (c .before .before .before .before .args .square) (c .before .before .before .before .args .i) front (c .before .before .before .before .args .out .now) (c .before .before .before .before .args .s) lt (ap (λ (l : List ℕ). badEntry (c .before .before .before .before .args .g) l (c .before .before .before .before .args .i)) er ∙ sym (c .before .bad-entry .ensures) ∙ c .if1 .taken)
+
+give-requires : tie.Need-give-requires
+give-requires c κs = search needs
+
+add-t14 : tie.Need-add-t14
+add-t14 c = search needs
+
+add-t15 : tie.Need-add-t15
+add-t15 c = search needs
+
+same-length : tie.Need-same-length
+same-length c = search needs
+
+returns-2 : tie.Need-returns-2
+returns-2 c =
+    λ t front er lt. hand-fine (c .before .before .before .before .before .before .before .before .args .g) t (c .before .before .before .before .before .before .before .before .args .q) (c .before .before .before .before .before .before .before .before .args .square) (c .before .before .before .before .before .before .before .before .args .i) front (c .before .before .before .before .before .before .before .before .args .out .now) (c .before .before .before .before .before .before .before .before .args .s) lt (ap (λ (l : List ℕ). badEntry (c .before .before .before .before .before .before .before .before .args .g) l (c .before .before .before .before .before .before .before .before .args .i)) er ∙ sym (c .before .before .before .before .before .bad-entry .ensures) ∙ c .before .before .before .before .if1 .left) (c .before .before .before .before .before .before .before .before .pre .1) (c .before .before .give .last .1 .1 .1 .1 .1 .1 .0)
+    (c .before .before .give .ensures ∙ ap (λ (l : List ℕ). take (rowNumbers * c .before .before .before .before .before .before .before .before .args .s .given) (c .before .before .before .before .before .before .before .before .args .out .now) ++ (rowWrites (c .before .before .before .before .before .before .before .before .args .g) l (c .before .before .before .before .before .before .before .before .args .q) (c .before .before .before .before .before .before .before .before .args .i) (c .before .before .before .before .before .before .before .before .args .square) ++ drop (rowNumbers * (c .before .before .before .before .before .before .before .before .args .s .given + 1)) (c .before .before .before .before .before .before .before .before .args .out .now))) (sym er))
+
+pub take-footprint-spec : {M : Type 1} → statement M
+take-footprint-spec =
+    tie.close
+    (tie.spec bad-entry-requires returns give-requires add-t14 add-t15 same-length returns-2)
