@@ -1,9 +1,9 @@
 // The walk outward from a point, over lent tables and a lent front: start and ask.
 
-pub mod batch; // batch.rt: new rows gathered in order, and merged into the waiting rows
-pub mod tile; // tile.rt: a tile's runs judged, and its footprints
-pub mod group; // group.rt: a group's tiles, and the next group
-pub mod take; // take.rt: the first row is taken, until enough are given
+mod batch; // batch.rt: new rows gathered in order, and merged into the waiting rows
+mod tile; // tile.rt: a tile's runs judged, and its footprints
+mod group; // group.rt: a group's tiles, and the next group
+mod take; // take.rt: the first row is taken, until enough are given
 
 use batch::Fill;
 use batch::flush;

@@ -17,20 +17,33 @@ add-group-requires-3 : tie.Need-add-group-requires-3
 add-group-requires-3 c κs = search needs
 
 add-group-requires-4 : tie.Need-add-group-requires-4
-add-group-requires-4 c κs = (c .before .before .before .before .before .before .add-group3 .ensures .safe, c .before .before .before .before .before .before .before .before .before .before .before .before .before .before .before .before .before .before .before .before .before .before .before .before .before .pre .1)
+add-group-requires-4 c κs =
+    let add-group3 = c .before .before .before .before .before .before .add-group3 in
+    let pre = c .before .before .before .before .before .before .before .before .before .before .before .before .before .before .before .before .before .before .before .before .before .before .before .before .before .pre in
+    (add-group3 .ensures .safe, pre .1)
 
 same-length : tie.Need-same-length
-same-length c = c .before .before .before .before .add-group4 .kept .1 .1 .0 ∙ c .before .before .before .before .before .before .before .before .before .before .before .add-group3 .kept .1 .1 .0 ∙ c .before .before .before .before .before .before .before .before .before .before .before .before .before .before .before .before .before .before .add-group2 .kept .1 .1 .0 ∙ c .before .before .before .before .before .before .before .before .before .before .before .before .before .before .before .before .before .before .before .before .before .before .before .before .before .add-group .kept .1 .1 .0
+same-length c =
+    let add-group4 = c .before .before .before .before .add-group4 in
+    let add-group3 = c .before .before .before .before .before .before .before .before .before .before .before .add-group3 in
+    let add-group2 = c .before .before .before .before .before .before .before .before .before .before .before .before .before .before .before .before .before .before .add-group2 in
+    let add-group = c .before .before .before .before .before .before .before .before .before .before .before .before .before .before .before .before .before .before .before .before .before .before .before .before .before .add-group in
+    add-group4 .kept .1 .1 .0 ∙ add-group3 .kept .1 .1 .0 ∙ add-group2 .kept .1 .1 .0 ∙ add-group .kept .1 .1 .0
 
 same-length-2 : tie.Need-same-length-2
 same-length-2 c = search needs
 
 returns : tie.Need-returns
 returns c =
-    refilled (c .before .before .before .before .add-group4 .last .1 .1 .0) (c .before .before .before .before .add-group4 .last .1 .1 .1 .0) (c .before .before .before .before .add-group4 .result) _ _ (c .before .before .before .before .add-group4 .ensures)
-    (four-steps (c .before .before .before .before .before .before .before .before .before .before .before .before .before .before .before .before .before .before .before .before .before .before .before .before .before .before .before .before .before .before .args .g) (c .before .before .before .before .before .before .before .before .before .before .before .before .before .before .before .before .before .before .before .before .before .before .before .before .before .before .before .before .before .before .args .q) (stands (c .before .before .before .before .before .before .before .before .before .before .before .before .before .before .before .before .before .before .before .before .before .before .before .before .before .before .before .before .before .before .args .front .now) (c .before .before .before .before .before .before .before .before .before .before .before .before .before .before .before .before .before .before .before .before .before .before .before .before .before .before .before .before .before .before .args .batch .now) (c .before .before .before .before .before .before .before .before .before .before .before .before .before .before .before .before .before .before .before .before .before .before .before .before .before .before .before .before .before .before .args .f)) (stands (c .before .before .before .before .before .before .before .before .before .before .before .before .before .before .before .before .before .before .before .before .before .before .before .before .before .add-group .last .1 .1 .0) (c .before .before .before .before .before .before .before .before .before .before .before .before .before .before .before .before .before .before .before .before .before .before .before .before .before .add-group .last .1 .1 .1 .0) (c .before .before .before .before .before .before .before .before .before .before .before .before .before .before .before .before .before .before .before .before .before .before .before .before .before .add-group .result))
-    (stands (c .before .before .before .before .before .before .before .before .before .before .before .before .before .before .before .before .before .before .add-group2 .last .1 .1 .0) (c .before .before .before .before .before .before .before .before .before .before .before .before .before .before .before .before .before .before .add-group2 .last .1 .1 .1 .0) (c .before .before .before .before .before .before .before .before .before .before .before .before .before .before .before .before .before .before .add-group2 .result)) (stands (c .before .before .before .before .before .before .before .before .before .before .before .add-group3 .last .1 .1 .0) (c .before .before .before .before .before .before .before .before .before .before .before .add-group3 .last .1 .1 .1 .0) (c .before .before .before .before .before .before .before .before .before .before .before .add-group3 .result))
-    (c .before .before .before .before .before .before .before .before .before .before .before .before .before .before .before .before .before .before .before .before .before .before .before .before .before .add-group .ensures .is) (c .before .before .before .before .before .before .before .before .before .before .before .before .before .before .before .before .before .before .add-group2 .ensures .is) (c .before .before .before .before .before .before .before .before .before .before .before .add-group3 .ensures .is))
+    let add-group4 = c .before .before .before .before .add-group4 in
+    let a = c .before .before .before .before .before .before .before .before .before .before .before .before .before .before .before .before .before .before .before .before .before .before .before .before .before .before .before .before .before .before .args in
+    let add-group = c .before .before .before .before .before .before .before .before .before .before .before .before .before .before .before .before .before .before .before .before .before .before .before .before .before .add-group in
+    let add-group2 = c .before .before .before .before .before .before .before .before .before .before .before .before .before .before .before .before .before .before .add-group2 in
+    let add-group3 = c .before .before .before .before .before .before .before .before .before .before .before .add-group3 in
+    refilled (add-group4 .last .1 .1 .0) (add-group4 .last .1 .1 .1 .0) (add-group4 .result) _ _ (add-group4 .ensures)
+    (four-steps (a .g) (a .q) (stands (a .front .now) (a .batch .now) (a .f)) (stands (add-group .last .1 .1 .0) (add-group .last .1 .1 .1 .0) (add-group .result))
+    (stands (add-group2 .last .1 .1 .0) (add-group2 .last .1 .1 .1 .0) (add-group2 .result)) (stands (add-group3 .last .1 .1 .0) (add-group3 .last .1 .1 .1 .0) (add-group3 .result))
+    (add-group .ensures .is) (add-group2 .ensures .is) (add-group3 .ensures .is))
 
 pub add-groups-spec : {M : Type 1} → statement M
 add-groups-spec =

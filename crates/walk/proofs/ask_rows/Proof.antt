@@ -14,8 +14,11 @@ lift-requires c κs = search needs
 
 run-requires : tie.Need-run-requires
 run-requires c κs =
-    let e = c .before .before .before .before .lift .ensures .0 in let n = same-rows (c .before .before .before .before .lift .last .0) (c .before .before .before .before .before .before .before .before .before .before .before .args .front .now) (c .before .before .before .before .lift .kept .0) in
-    (c .before .before .before .before .before .before .before .before .before .before .before .pre .0, (omega arith, c .before .before .before .before .before .before .before .before .before .before .before .pre .1 .1))
+    let lift = c .before .before .before .before .lift in
+    let a = c .before .before .before .before .before .before .before .before .before .before .before .args in
+    let pre = c .before .before .before .before .before .before .before .before .before .before .before .pre in
+    let e = lift .ensures .0 in let n = same-rows (lift .last .0) (a .front .now) (lift .kept .0) in
+    (pre .0, (omega arith, pre .1 .1))
 
 spoil-ask-requires : tie.Need-spoil-ask-requires
 spoil-ask-requires c κs = search needs
@@ -28,8 +31,18 @@ same-length-2 c = search needs
 
 returns : tie.Need-returns
 returns c =
-    rows-spoiled (c .before .before .before .before .before .before .before .before .before .before .before .before .before .before .before .before .before .before .before .before .before .before .before .before .args .g) (tables (c .before .before .before .before .before .before .before .before .before .before .before .before .before .before .before .before .before .before .before .before .before .before .before .before .args .reg .now) (c .before .before .before .before .before .before .before .before .before .before .before .before .before .before .before .before .before .before .before .before .before .before .before .before .args .starts .now) (c .before .before .before .before .before .before .before .before .before .before .before .before .before .before .before .before .before .before .before .before .before .before .before .before .args .entries .now)) (c .before .before .before .before .before .before .before .before .before .before .before .before .before .before .before .before .before .before .before .before .before .before .before .before .args .walk) (c .before .before .before .before .before .before .before .before .before .before .before .before .before .before .before .before .before .before .before .before .before .before .before .before .args .front .now) (c .before .before .before .before .before .before .before .before .before .before .before .before .before .before .before .before .before .before .before .before .before .before .before .before .args .out .now) (c .before .before .before .before .before .before .before .before .before .before .before .before .before .before .before .before .before .lift .last .0) (c .before .before .before .before .before .before .before .before .before .before .before .before .run .last .1 .1 .1 .1 .1 .0) (c .before .before .before .before .before .before .before .before .before .before .before .before .run .last .1 .1 .1 .1 .1 .1 .1 .1 .0) (c .before .before .before .before .before .before .before .before .before .before .before .before .before .before .before .before .before .lift .result) (c .before .before .before .before .before .before .before .before .before .before .before .before .before .before .before .before .before .before .before .before .before .before .before .before .args .j) (c .before .before .before .before .before .before .before .before .before .before .before .before .run .result)
-    (c .before .before .before .before .before .before .before .before .before .before .before .before .before .before .before .before .before .lift .kept .0) (c .before .before .before .before .before .before .before .before .before .before .before .before .run .kept .1 .1 .1 .1 .1 .0) (c .before .before .before .before .before .before .before .before .before .before .before .before .run .kept .1 .1 .1 .1 .1 .1 .1 .1 .0) (last-lifted (rows (c .before .before .before .before .before .before .before .before .before .before .before .before .before .before .before .before .before .before .before .before .before .before .before .before .args .front .now)) (rows (c .before .before .before .before .before .before .before .before .before .before .before .before .before .before .before .before .before .lift .last .0)) (c .before .before .before .before .before .before .before .before .before .before .before .before .before .before .before .before .before .lift .result) (c .before .before .before .before .before .before .before .before .before .before .before .before .before .before .before .before .before .before .before .before .before .before .before .before .args .walk .waiting) (c .before .before .before .before .before .before .before .before .before .before .before .before .before .before .before .before .before .lift .ensures .0) (c .before .before .before .before .before .before .before .before .before .before .before .before .before .before .before .before .before .lift .ensures .1)) (c .before .before .before .before .before .before .before .before .before .before .before .before .run .ensures) (c .before .before .before .before .before .before .before .before .before .before .before .before .before .before .before .before .before .before .before .before .before .before .before .before .pre .1 .1) (c .before .before .before .before .before .before .before .if1 .taken) (c .before .before .before .before .spoil-ask .last .0) (c .before .before .before .before .spoil-ask .last .1 .1 .1 .0) (c .before .before .before .before .spoil-ask .result) (c .before .before .before .before .spoil-ask .ensures)
+    let a = c .before .before .before .before .before .before .before .before .before .before .before .before .before .before .before .before .before .before .before .before .before .before .before .before .args in
+    let lift = c .before .before .before .before .before .before .before .before .before .before .before .before .before .before .before .before .before .lift in
+    let run = c .before .before .before .before .before .before .before .before .before .before .before .before .run in
+    let pre = c .before .before .before .before .before .before .before .before .before .before .before .before .before .before .before .before .before .before .before .before .before .before .before .before .pre in
+    let if1 = c .before .before .before .before .before .before .before .if1 in
+    let spoil-ask = c .before .before .before .before .spoil-ask in
+    let lent = tables (a .reg .now) (a .starts .now) (a .entries .now) in
+    rows-spoiled (a .g) lent (a .walk) (a .front .now) (a .out .now)
+    (lift .last .0) (run .last .1 .1 .1 .1 .1 .0) (run .last .1 .1 .1 .1 .1 .1 .1 .1 .0) (lift .result) (a .j) (run .result)
+    (lift .kept .0) (run .kept .1 .1 .1 .1 .1 .0) (run .kept .1 .1 .1 .1 .1 .1 .1 .1 .0)
+    (last-lifted (rows (a .front .now)) (rows (lift .last .0)) (lift .result) (a .walk .waiting) (lift .ensures .0) (lift .ensures .1)) (run .ensures) (pre .1 .1) (if1 .taken)
+    (spoil-ask .last .0) (spoil-ask .last .1 .1 .1 .0) (spoil-ask .result) (spoil-ask .ensures)
 
 settle-requires : tie.Need-settle-requires
 settle-requires c κs = search needs
@@ -48,8 +61,19 @@ same-length-4 c = search needs
 
 returns-2 : tie.Need-returns-2
 returns-2 c =
-    rows-given (c .before .before .before .before .before .before .before .before .before .before .before .before .before .before .before .before .before .before .before .before .before .before .before .args .g) (tables (c .before .before .before .before .before .before .before .before .before .before .before .before .before .before .before .before .before .before .before .before .before .before .before .args .reg .now) (c .before .before .before .before .before .before .before .before .before .before .before .before .before .before .before .before .before .before .before .before .before .before .before .args .starts .now) (c .before .before .before .before .before .before .before .before .before .before .before .before .before .before .before .before .before .before .before .before .before .before .before .args .entries .now)) (c .before .before .before .before .before .before .before .before .before .before .before .before .before .before .before .before .before .before .before .before .before .before .before .args .walk) (c .before .before .before .before .before .before .before .before .before .before .before .before .before .before .before .before .before .before .before .before .before .before .before .args .front .now) (c .before .before .before .before .before .before .before .before .before .before .before .before .before .before .before .before .before .before .before .before .before .before .before .args .out .now) (c .before .before .before .before .before .before .before .before .before .before .before .before .before .before .before .before .lift .last .0) (c .before .before .before .before .before .before .before .before .before .before .before .run .last .1 .1 .1 .1 .1 .0) (c .before .before .before .before .before .before .before .before .before .before .before .run .last .1 .1 .1 .1 .1 .1 .1 .1 .0) (c .before .before .before .before .before .before .before .before .before .before .before .before .before .before .before .before .lift .result) (c .before .before .before .before .before .before .before .before .before .before .before .before .before .before .before .before .before .before .before .before .before .before .before .args .j) (c .before .before .before .before .before .before .before .before .before .before .before .run .result)
-    (c .before .before .before .before .before .before .before .before .before .before .before .before .before .before .before .before .lift .kept .0) (c .before .before .before .before .before .before .before .before .before .before .before .run .kept .1 .1 .1 .1 .1 .0) (c .before .before .before .before .before .before .before .before .before .before .before .run .kept .1 .1 .1 .1 .1 .1 .1 .1 .0) (last-lifted (rows (c .before .before .before .before .before .before .before .before .before .before .before .before .before .before .before .before .before .before .before .before .before .before .before .args .front .now)) (rows (c .before .before .before .before .before .before .before .before .before .before .before .before .before .before .before .before .lift .last .0)) (c .before .before .before .before .before .before .before .before .before .before .before .before .before .before .before .before .lift .result) (c .before .before .before .before .before .before .before .before .before .before .before .before .before .before .before .before .before .before .before .before .before .before .before .args .walk .waiting) (c .before .before .before .before .before .before .before .before .before .before .before .before .before .before .before .before .lift .ensures .0) (c .before .before .before .before .before .before .before .before .before .before .before .before .before .before .before .before .lift .ensures .1)) (c .before .before .before .before .before .before .before .before .before .before .before .run .ensures) (c .before .before .before .before .before .before .before .before .before .before .before .before .before .before .before .before .before .before .before .before .before .before .before .pre .1 .1) (c .before .before .before .before .before .before .if1 .left) (c .before .before .before .before .settle .last .0) (c .before .before .before .before .settle .result) (c .before .before .before .before .settle .ensures .0) (c .before .before .before .before .settle .ensures .1) (c .before .walk-at .result) (c .before .walk-at .ensures) (c .done .result) (c .done .ensures)
+    let a = c .before .before .before .before .before .before .before .before .before .before .before .before .before .before .before .before .before .before .before .before .before .before .before .args in
+    let lift = c .before .before .before .before .before .before .before .before .before .before .before .before .before .before .before .before .lift in
+    let run = c .before .before .before .before .before .before .before .before .before .before .before .run in
+    let pre = c .before .before .before .before .before .before .before .before .before .before .before .before .before .before .before .before .before .before .before .before .before .before .before .pre in
+    let if1 = c .before .before .before .before .before .before .if1 in
+    let settle = c .before .before .before .before .settle in
+    let walk-at = c .before .walk-at in
+    let lent = tables (a .reg .now) (a .starts .now) (a .entries .now) in
+    rows-given (a .g) lent (a .walk) (a .front .now) (a .out .now)
+    (lift .last .0) (run .last .1 .1 .1 .1 .1 .0) (run .last .1 .1 .1 .1 .1 .1 .1 .1 .0) (lift .result) (a .j) (run .result)
+    (lift .kept .0) (run .kept .1 .1 .1 .1 .1 .0) (run .kept .1 .1 .1 .1 .1 .1 .1 .1 .0)
+    (last-lifted (rows (a .front .now)) (rows (lift .last .0)) (lift .result) (a .walk .waiting) (lift .ensures .0) (lift .ensures .1)) (run .ensures) (pre .1 .1) (if1 .left)
+    (settle .last .0) (settle .result) (settle .ensures .0) (settle .ensures .1) (walk-at .result) (walk-at .ensures) (c .done .result) (c .done .ensures)
 
 pub ask-rows-spec : {M : Type 1} → statement M
 ask-rows-spec =

@@ -24,10 +24,11 @@ slice-aggregate-add-tile c = search needs
 
 add-tile-requires : tie.Need-add-tile-requires
 add-tile-requires c κs =
+    let pre = c .before .before .before .before .before .before .before .before .pre in
     let n = length-rows (replicate 768 0) in
     let l = length-replicate {A = ℕ} 768 0 in
     let w = c .before .before .whole .ensures in
-    (record { room = omega arith; inside = omega arith; few = omega arith; wide = omega arith }, (c .before .before .before .before .before .before .before .before .pre .0, (c .before .before .before .before .before .before .before .before .pre .1 .0 .1, c .before .before .before .before .before .before .before .before .pre .1 .1 .0)))
+    (record { room = omega arith; inside = omega arith; few = omega arith; wide = omega arith }, (pre .0, (pre .1 .0 .1, pre .1 .1 .0)))
 
 slice-aggregate-add-groups : tie.Need-slice-aggregate-add-groups
 slice-aggregate-add-groups c = search needs
@@ -49,13 +50,21 @@ same-length c = search needs
 
 returns : tie.Need-returns
 returns c =
-    let groups = itemRows (c .before .before .before .before .before .before .before .before .before .before .before .before .before .before .before .before .before .before .before .before .before .before .before .before .before .before .before .args .g) (c .before .before .before .before .before .before .before .before .before .before .before .before .before .before .before .before .before .before .before .before .before .before .before .before .before .before .before .args .q) (each (groupIf (c .before .before .before .before .before .before .before .before .before .before .before .before .before .before .before .before .before .before .before .before .before .before .before .before .before .before .before .args .g) (c .before .before .before .before .before .before .before .before .before .before .before .before .before .before .before .before .before .before .before .before .before .before .before .before .before .before .before .args .q) 1) directions) in
-    let room : length (each (runAt (tables (c .before .before .before .before .before .before .before .before .before .before .before .before .before .before .before .before .before .before .before .before .before .before .before .before .before .before .before .args .reg .now) (c .before .before .before .before .before .before .before .before .before .before .before .before .before .before .before .before .before .before .before .before .before .before .before .before .before .before .before .args .starts .now) (c .before .before .before .before .before .before .before .before .before .before .before .before .before .before .before .before .before .before .before .before .before .before .before .before .before .before .before .args .entries .now))) (allowedRuns (c .before .before .before .before .before .before .before .before .before .before .before .before .before .before .before .before .before .before .before .before .before .before .before .before .before .before .before .args .g) (c .before .before .before .before .before .before .before .before .before .before .before .before .before .before .before .before .before .before .before .before .before .before .before .before .before .before .before .args .q) (c .before .before .before .before .before .before .before .before .before .before .before .before .before .before .before .before .before .before .before .before .before .before .before .before .before .before .before .args .tile))) + 4 ≤ c .before .before .before .before .before .before .before .before .before .before .before .before .before .before .before .before .before .before .before .before .before .whole .result = omega (arith, c .before .before .before .before .before .before .before .before .before .before .before .before .before .before .before .before .before .before .before .before .before .before .before .before .before .before .before .pre .1 .1 .1, c .before .before .before .before .before .before .before .before .before .before .before .before .before .before .before .before .before .before .before .before .before .whole .ensures) in
-    let e = c .before .before .before .before .before .before .before .before .before .before .before .before .add-groups .ensures .is ∙ ap (λ (x : Got). addAll x groups) (c .before .before .before .before .before .before .before .before .before .before .before .before .before .before .before .before .before .before .add-tile .ensures .is)
-    ∙ start-stands (c .before .before .before .before .before .before .before .before .before .before .before .before .before .before .before .before .before .before .before .before .before .before .before .before .before .before .before .args .g) (c .before .before .before .before .before .before .before .before .before .before .before .before .before .before .before .before .before .before .before .before .before .before .before .before .before .before .before .args .q) (tables (c .before .before .before .before .before .before .before .before .before .before .before .before .before .before .before .before .before .before .before .before .before .before .before .before .before .before .before .args .reg .now) (c .before .before .before .before .before .before .before .before .before .before .before .before .before .before .before .before .before .before .before .before .before .before .before .before .before .before .before .args .starts .now) (c .before .before .before .before .before .before .before .before .before .before .before .before .before .before .before .before .before .before .before .before .before .before .before .before .before .before .before .args .entries .now)) (c .before .before .before .before .before .before .before .before .before .before .before .before .before .before .before .before .before .before .before .before .before .before .before .before .before .before .before .args .tile) (c .before .before .before .before .before .before .before .before .before .before .before .before .before .before .before .before .before .before .before .before .before .before .before .before .before .before .before .pre .0 .placed) (c .before .before .before .before .before .before .before .before .before .before .before .before .before .before .before .before .before .before .before .before .before .before .before .before .before .before .before .pre .1 .0 .0) (c .before .before .before .before .before .before .before .before .before .before .before .before .before .before .before .before .before .before .before .before .before .before .before .before .before .before .before .args .front .now) (replicate 768 0) (c .before .before .before .before .before .before .before .before .before .before .before .before .before .before .before .before .before .before .before .before .before .whole .result) (c .before .before .before .before .before .before .before .before .before .before .before .before .before .before .before .before .before .before .before .before .before .whole .ensures) room in
-    let w = c .before .before .before .before .before .before .flush .ensures .1 ∙ kept-waits (c .before .before .before .before .before .before .before .before .before .before .before .before .add-groups .last .1 .1 .0) (c .before .before .before .before .before .before .before .before .before .before .before .before .add-groups .last .1 .1 .1 .0) (c .before .before .before .before .before .before .before .before .before .before .before .before .add-groups .result) _ _ e in
-    let n : length (c .before .before .before .before .before .before .flush .last .0) ≡ length (c .before .before .before .before .before .before .before .before .before .before .before .before .before .before .before .before .before .before .before .before .before .before .before .before .before .before .before .args .front .now) = c .before .before .before .before .before .before .flush .kept .0 ∙ c .before .before .before .before .before .before .before .before .before .before .before .before .add-groups .kept .1 .1 .0 ∙ c .before .before .before .before .before .before .before .before .before .before .before .before .before .before .before .before .before .before .add-tile .kept .1 .1 .1 .1 .1 .0 in
-    (c .before .before .settle .ensures .1 ∙ ap₂ laid n w, c .before .before .settle .ensures .0 ∙ ap length w)
+    let a = c .before .before .before .before .before .before .before .before .before .before .before .before .before .before .before .before .before .before .before .before .before .before .before .before .before .before .before .args in
+    let whole = c .before .before .before .before .before .before .before .before .before .before .before .before .before .before .before .before .before .before .before .before .before .whole in
+    let pre = c .before .before .before .before .before .before .before .before .before .before .before .before .before .before .before .before .before .before .before .before .before .before .before .before .before .before .before .pre in
+    let add-groups = c .before .before .before .before .before .before .before .before .before .before .before .before .add-groups in
+    let add-tile = c .before .before .before .before .before .before .before .before .before .before .before .before .before .before .before .before .before .before .add-tile in
+    let flush = c .before .before .before .before .before .before .flush in
+    let settle = c .before .before .settle in
+    let lent = tables (a .reg .now) (a .starts .now) (a .entries .now) in
+    let groups = itemRows (a .g) (a .q) (each (groupIf (a .g) (a .q) 1) directions) in
+    let room : length (each (runAt lent) (allowedRuns (a .g) (a .q) (a .tile))) + 4 ≤ whole .result = omega (arith, pre .1 .1 .1, whole .ensures) in
+    let e = add-groups .ensures .is ∙ ap (λ (x : Got). addAll x groups) (add-tile .ensures .is)
+    ∙ start-stands (a .g) (a .q) lent (a .tile) (pre .0 .placed) (pre .1 .0 .0) (a .front .now) (replicate 768 0) (whole .result) (whole .ensures) room in
+    let w = flush .ensures .1 ∙ kept-waits (add-groups .last .1 .1 .0) (add-groups .last .1 .1 .1 .0) (add-groups .result) _ _ e in
+    let n : length (flush .last .0) ≡ length (a .front .now) = flush .kept .0 ∙ add-groups .kept .1 .1 .0 ∙ add-tile .kept .1 .1 .1 .1 .1 .0 in
+    (settle .ensures .1 ∙ ap₂ laid n w, settle .ensures .0 ∙ ap length w)
 
 pub lay-start-spec : {M : Type 1} → statement M
 lay-start-spec =

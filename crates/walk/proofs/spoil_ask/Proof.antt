@@ -26,7 +26,12 @@ same-length-2 : tie.Need-same-length-2
 same-length-2 c = search needs
 
 returns : tie.Need-returns
-returns c = spoils (c .before .before .before .before .before .before .before .before .before .before .before .before .args .walk) (c .before .before .before .before .before .before .before .before .before .before .before .before .args .front .now) (c .before .before .before .before .before .before .before .before .before .before .before .before .args .out .now) (c .before .before .before .before .before .before .before .before .zero .last .0) (c .before .before .before .before .zero2 .last .0) (c .before .before .before .before .before .before .before .before .before .before .before .before .args .j) (c .before .before .before .before .before .before .before .before .zero .ensures) (c .before .before .before .before .zero2 .ensures) (c .before .walk-at .result) (c .before .walk-at .ensures) (c .refused .result) (c .refused .ensures)
+returns c =
+    let a = c .before .before .before .before .before .before .before .before .before .before .before .before .args in
+    let zero = c .before .before .before .before .before .before .before .before .zero in
+    let zero2 = c .before .before .before .before .zero2 in
+    let walk-at = c .before .walk-at in
+    spoils (a .walk) (a .front .now) (a .out .now) (zero .last .0) (zero2 .last .0) (a .j) (zero .ensures) (zero2 .ensures) (walk-at .result) (walk-at .ensures) (c .refused .result) (c .refused .ensures)
 
 pub spoil-ask-spec : {M : Type 1} → statement M
 spoil-ask-spec =

@@ -16,8 +16,10 @@ column-requires-2 c κs = search needs
 
 tile-no-requires : tie.Need-tile-no-requires
 tile-no-requires c κs =
-    let s = sized (c .before .before .args .g) (c .before .before .args .q) (c .before .before .pre) in
-    let o = columns (c .before .before .args .g) (c .before .before .args .q) (c .before .before .pre) in
+    let a = c .before .before .args in
+    let pre = c .before .before .pre in
+    let s = sized (a .g) (a .q) pre in
+    let o = columns (a .g) (a .q) pre in
     (s .n-most, omega (arith, c .before .column .ensures), omega (arith, c .column2 .ensures))
 
 returns : tie.Need-returns

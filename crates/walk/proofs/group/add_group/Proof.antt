@@ -14,7 +14,9 @@ group-exists-requires : tie.Need-group-exists-requires
 group-exists-requires c κs = search needs
 
 group-row-requires : tie.Need-group-row-requires
-group-row-requires c κs = (c .before .before .before .before .pre .1, sym (c .before .group-exists .ensures) ∙ c .if1 .taken)
+group-row-requires c κs =
+    let pre = c .before .before .before .before .pre in
+    (pre .1, sym (c .before .group-exists .ensures) ∙ c .if1 .taken)
 
 add-requires : tie.Need-add-requires
 add-requires c κs = search needs
@@ -28,17 +30,24 @@ same-length-2 c = search needs
 returns : tie.Need-returns
 unfolding addAll
 returns c =
-    let e = group-yes (c .before .before .before .before .before .before .before .before .before .before .before .before .args .g) (c .before .before .before .before .before .before .before .before .before .before .before .before .args .q) (c .before .before .before .before .before .before .before .before .before .before .before .before .args .d) (c .before .before .before .before .before .before .before .before .before .before .before .before .args .level) (sym (c .before .before .before .before .before .before .before .before .before .group-exists .ensures) ∙ c .before .before .before .before .before .before .before .before .if1 .taken) in
-    let s = stands (c .before .before .before .before .before .before .before .before .before .before .before .before .args .front .now) (c .before .before .before .before .before .before .before .before .before .before .before .before .args .batch .now) (c .before .before .before .before .before .before .before .before .before .before .before .before .args .f) in
-    refilled (c .before .before .before .before .add .last .0) (c .before .before .before .before .add .last .1 .0) (c .before .before .before .before .add .result) (addTo s (c .before .before .before .before .before .before .before .group-row .result)) _ (c .before .before .before .before .add .ensures)
-    (ap (addTo s) (c .before .before .before .before .before .before .before .group-row .ensures) ∙ ap (λ (l : List Item). addAll s (itemRows (c .before .before .before .before .before .before .before .before .before .before .before .before .args .g) (c .before .before .before .before .before .before .before .before .before .before .before .before .args .q) l)) (sym e))
+    let a = c .before .before .before .before .before .before .before .before .before .before .before .before .args in
+    let group-exists = c .before .before .before .before .before .before .before .before .before .group-exists in
+    let if1 = c .before .before .before .before .before .before .before .before .if1 in
+    let add = c .before .before .before .before .add in
+    let group-row = c .before .before .before .before .before .before .before .group-row in
+    let e = group-yes (a .g) (a .q) (a .d) (a .level) (sym (group-exists .ensures) ∙ if1 .taken) in
+    let s = stands (a .front .now) (a .batch .now) (a .f) in
+    refilled (add .last .0) (add .last .1 .0) (add .result) (addTo s (group-row .result)) _ (add .ensures)
+    (ap (addTo s) (group-row .ensures) ∙ ap (λ (l : List Item). addAll s (itemRows (a .g) (a .q) l)) (sym e))
 
 returns-2 : tie.Need-returns-2
 unfolding addAll
 returns-2 c =
-    let e = group-no (c .before .before .before .before .args .g) (c .before .before .before .before .args .q) (c .before .before .before .before .args .d) (c .before .before .before .before .args .level) (sym (c .before .group-exists .ensures) ∙ c .if1 .left) in
-    let s = stands (c .before .before .before .before .args .front .now) (c .before .before .before .before .args .batch .now) (c .before .before .before .before .args .f) in
-    record { safe = c .before .before .before .before .pre .0; is = ap (λ (l : List Item). addAll s (itemRows (c .before .before .before .before .args .g) (c .before .before .before .before .args .q) l)) (sym e) }
+    let a = c .before .before .before .before .args in
+    let pre = c .before .before .before .before .pre in
+    let e = group-no (a .g) (a .q) (a .d) (a .level) (sym (c .before .group-exists .ensures) ∙ c .if1 .left) in
+    let s = stands (a .front .now) (a .batch .now) (a .f) in
+    record { safe = pre .0; is = ap (λ (l : List Item). addAll s (itemRows (a .g) (a .q) l)) (sym e) }
 
 pub add-group-spec : {M : Type 1} → statement M
 add-group-spec =

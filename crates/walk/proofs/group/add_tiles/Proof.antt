@@ -21,34 +21,59 @@ abbrev μ-loop : tie.MeasureT-loop
 
 -- the next tile is on the grid
 on : (c : tie.In-loop Inv-loop μ-loop) → c .before .loop .tile < tileCount (c .before .before .before .before .args .g)
-on c = rw (c .before .loop .inv .1) (c .before .before .before .before .pre .1 .1 (c .before .loop .i) (c .loop-test .taken))
+on c =
+    let loop = c .before .loop in
+    let pre = c .before .before .before .before .pre in
+    rw (loop .inv .1) (pre .1 .1 (loop .i) (c .loop-test .taken))
 
 loop-holds : tie.Need-loop-holds Inv-loop μ-loop
-loop-holds c = (bring-all (c .before .before .args .front .now) (c .before .before .args .batch .now) (c .before .before .args .f) _ _ (tiles-all (c .before .before .args .g) (c .before .before .args .q) (c .before .before .args .tiles .start) (c .before .before .args .tiles .apart) (c .before .before .args .tiles .many)) (c .before .before .pre .0), omega arith, refl, refl)
+loop-holds c =
+    let a = c .before .before .args in
+    (bring-all (a .front .now) (a .batch .now) (a .f) _ _ (tiles-all (a .g) (a .q) (a .tiles .start) (a .tiles .apart) (a .tiles .many)) (c .before .before .pre .0), omega arith, refl, refl)
 
 tile-row-requires : tie.Need-tile-row-requires Inv-loop μ-loop
-tile-row-requires c κs = (c .before .before .before .before .pre .1 .0 .0, on (c))
+tile-row-requires c κs =
+    let pre = c .before .before .before .before .pre in
+    (pre .1 .0 .0, on c)
 
 add-requires : tie.Need-add-requires Inv-loop μ-loop
-add-requires c κs = c .before .before .before .before .loop .inv .0 .safe
+add-requires c κs =
+    let loop = c .before .before .before .before .loop in
+    loop .inv .0 .safe
 
 add-tile : tie.Need-add-tile Inv-loop μ-loop
-add-tile c = omega (arith, on (c .before .before .before .before .before .before .before .before), tile-on (c .before .before .before .before .before .before .before .before .before .before .before .before .args .g) (c .before .before .before .before .before .before .before .before .before .before .before .before .args .q) (c .before .before .before .before .before .before .before .before .before .before .before .before .pre .1 .0 .0) (c .before .before .before .before .before .before .before .before .before .loop .tile) (on (c .before .before .before .before .before .before .before .before)) .2, c .before .before .before .before .before .before .before .before .before .before .before .before .pre .1 .0 .1)
+add-tile c =
+    let in-loop = c .before .before .before .before .before .before .before .before in
+    let a = c .before .before .before .before .before .before .before .before .before .before .before .before .args in
+    let pre = c .before .before .before .before .before .before .before .before .before .before .before .before .pre in
+    let loop = c .before .before .before .before .before .before .before .before .before .loop in
+    omega (arith, on in-loop, tile-on (a .g) (a .q) (pre .1 .0 .0) (loop .tile) (on in-loop) .2, pre .1 .0 .1)
 
 add-i : tie.Need-add-i Inv-loop μ-loop
-add-i c = let t = c .before .before .before .before .before .before .before .before .loop-test .taken in let m = c .before .before .before .before .before .before .before .before .before .before .before .before .pre .1 .0 .2 in omega arith
+add-i c =
+    let loop-test = c .before .before .before .before .before .before .before .before .loop-test in
+    let pre = c .before .before .before .before .before .before .before .before .before .before .before .before .pre in
+    let t = loop-test .taken in let m = pre .1 .0 .2 in omega arith
 
 loop-less : tie.Need-loop-less Inv-loop μ-loop
-loop-less c = let t = c .before .before .before .before .before .before .before .before .loop-test .taken in let m = c .before .before .before .before .before .before .before .before .before .before .before .before .pre .1 .0 .2 in omega arith
+loop-less c =
+    let loop-test = c .before .before .before .before .before .before .before .before .loop-test in
+    let pre = c .before .before .before .before .before .before .before .before .before .before .before .before .pre in
+    let t = loop-test .taken in let m = pre .1 .0 .2 in omega arith
 
 loop-again : tie.Need-loop-again Inv-loop μ-loop
 loop-again c =
-    let a : Filled (c .before .before .before .before .add .last .0) (c .before .before .before .before .add .last .1 .0) (c .before .before .before .before .add .result) (addTo (stands (c .before .before .before .before .before .before .before .before .before .loop .front) (c .before .before .before .before .before .before .before .before .before .loop .batch) (c .before .before .before .before .before .before .before .before .before .loop .h)) _) = rw (c .before .before .before .before .before .before .before .tile-row .ensures) at (c .before .before .before .before .add .ensures) in
-    let n : (c .before .before .before .before .before .before .before .before .before .loop .i + 1) * c .before .before .before .before .before .before .before .before .before .before .before .before .args .tiles .apart ≡ c .before .before .before .before .before .before .before .before .before .loop .i * c .before .before .before .before .before .before .before .before .before .before .before .before .args .tiles .apart + c .before .before .before .before .before .before .before .before .before .before .before .before .args .tiles .apart = omega arith in (
-      bring-one (c .before .before .before .before .before .before .before .before .before .loop .inv .0) _ _ (tiles-next (c .before .before .before .before .before .before .before .before .before .before .before .before .args .g) (c .before .before .before .before .before .before .before .before .before .before .before .before .args .q) (c .before .before .before .before .before .before .before .before .before .loop .tile) (c .before .before .before .before .before .before .before .before .before .before .before .before .args .tiles .apart) (c .before .before .before .before .before .before .before .before .before .loop .i) (c .before .before .before .before .before .before .before .before .before .before .before .before .args .tiles .many) (c .before .before .before .before .before .before .before .before .loop-test .taken)) a,
-      omega (arith, c .before .before .before .before .before .before .before .before .before .loop .inv .1),
-      c .before .before .before .before .add .kept .0 ∙ c .before .before .before .before .before .before .before .before .before .loop .inv .2,
-      c .before .before .before .before .add .kept .1 .0 ∙ c .before .before .before .before .before .before .before .before .before .loop .inv .3,
+    let add = c .before .before .before .before .add in
+    let loop = c .before .before .before .before .before .before .before .before .before .loop in
+    let tile-row = c .before .before .before .before .before .before .before .tile-row in
+    let the-a = c .before .before .before .before .before .before .before .before .before .before .before .before .args in
+    let loop-test = c .before .before .before .before .before .before .before .before .loop-test in
+    let a : Filled (add .last .0) (add .last .1 .0) (add .result) (addTo (stands (loop .front) (loop .batch) (loop .h)) _) = rw (tile-row .ensures) at (add .ensures) in
+    let n : (loop .i + 1) * the-a .tiles .apart ≡ loop .i * the-a .tiles .apart + the-a .tiles .apart = omega arith in (
+      bring-one (loop .inv .0) _ _ (tiles-next (the-a .g) (the-a .q) (loop .tile) (the-a .tiles .apart) (loop .i) (the-a .tiles .many) (loop-test .taken)) a,
+      omega (arith, loop .inv .1),
+      add .kept .0 ∙ loop .inv .2,
+      add .kept .1 .0 ∙ loop .inv .3,
     )
 
 same-length : tie.Need-same-length Inv-loop μ-loop
@@ -58,7 +83,10 @@ same-length-2 : tie.Need-same-length-2 Inv-loop μ-loop
 same-length-2 c = c .before .loop .inv .3
 
 returns : tie.Need-returns Inv-loop μ-loop
-returns c = bring-none (c .before .loop .inv .0) (tiles-none (c .before .before .before .before .args .g) (c .before .before .before .before .args .q) (c .before .loop .tile) (c .before .before .before .before .args .tiles .apart) (c .before .loop .i) (c .before .before .before .before .args .tiles .many) (c .loop-test .left))
+returns c =
+    let loop = c .before .loop in
+    let a = c .before .before .before .before .args in
+    bring-none (loop .inv .0) (tiles-none (a .g) (a .q) (loop .tile) (a .tiles .apart) (loop .i) (a .tiles .many) (c .loop-test .left))
 
 pub add-tiles-spec : {M : Type 1} → statement M
 add-tiles-spec =

@@ -14,7 +14,9 @@ sub-t6 c = search needs
 
 returns : tie.Need-returns
 unfolding columnLine
-returns c = record { start = c .tile-no .ensures .0; apart = refl; many = refl; close = c .before .pre .0; few = let p = c .before .pre in omega arith }
+returns c =
+    let pre = c .before .pre in
+    record { start = c .tile-no .ensures .0; apart = refl; many = refl; close = pre .0; few = let p = pre in omega arith }
 
 pub column-tiles-spec : {M : Type 1} → statement M
 column-tiles-spec = tie.close (tie.spec tile-no-requires sub-t6 returns)

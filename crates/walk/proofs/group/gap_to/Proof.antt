@@ -16,7 +16,10 @@ wide-requires : tie.Need-wide-requires
 wide-requires c κs = search needs
 
 returns : tie.Need-returns
-returns c = (c .wide .ensures ∙ c .before .gap .ensures .0 ∙ ap (gap (at (c .before .before .before .args .c))) (c .before .before .cover .ensures .0), omega (arith, c .wide .ensures, c .before .gap .ensures .1, c .before .before .cover .ensures .1, c .before .before .before .pre .3))
+returns c =
+    let the-gap = c .before .gap in
+    let cover = c .before .before .cover in
+    (c .wide .ensures ∙ the-gap .ensures .0 ∙ ap (gap (at (c .before .before .before .args .c))) (cover .ensures .0), omega (arith, c .wide .ensures, the-gap .ensures .1, cover .ensures .1, c .before .before .before .pre .3))
 
 pub gap-to-spec : {M : Type 1} → statement M
 gap-to-spec = tie.close (tie.spec cover-requires gap-requires wide-requires returns)

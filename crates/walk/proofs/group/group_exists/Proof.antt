@@ -52,19 +52,37 @@ enum-told-4 c = search needs
 
 returns : tie.Need-returns
 returns c =
-    let a : c .before .before .wide .result + c .before .wide2 .result ≡ c .before .before .before .before .before .column2 .result + c .before .before .before .before .before .before .before .args .level = omega (arith, c .before .before .wide .ensures, c .before .wide2 .ensures) in
-    ap₂ (λ (x y : ℕ). ltb x y) a (c .wide3 .ensures) ∙ exists-up (c .before .before .before .before .before .before .before .args .g) (c .before .before .before .before .before .before .before .args .q) (c .before .before .before .before .before .before .before .args .d) (c .before .before .before .before .before .before .before .args .level) (c .before .before .before .before .before .before .column .result) (c .before .before .before .before .before .column2 .result) (c .before .before .before .before .before .before .column .ensures) (c .before .before .before .before .before .column2 .ensures) (c .before .before .before .enum-told .given .1)
+    let wide = c .before .before .wide in
+    let wide2 = c .before .wide2 in
+    let column2 = c .before .before .before .before .before .column2 in
+    let the-a = c .before .before .before .before .before .before .before .args in
+    let column = c .before .before .before .before .before .before .column in
+    let a : wide .result + wide2 .result ≡ column2 .result + the-a .level = omega (arith, wide .ensures, wide2 .ensures) in
+    ap₂ (λ (x y : ℕ). ltb x y) a (c .wide3 .ensures) ∙ exists-up (the-a .g) (the-a .q) (the-a .d) (the-a .level) (column .result) (column2 .result) (column .ensures) (column2 .ensures) (c .before .before .before .enum-told .given .1)
 
 returns-2 : tie.Need-returns-2
 returns-2 c =
-    let a : c .before .before .wide4 .result + c .before .wide5 .result ≡ c .before .before .before .before .before .before .column .result + c .before .before .before .before .before .before .before .args .level = omega (arith, c .before .before .wide4 .ensures, c .before .wide5 .ensures) in
-    ap₂ (λ (x y : ℕ). ltb x y) a (c .wide6 .ensures) ∙ exists-right (c .before .before .before .before .before .before .before .args .g) (c .before .before .before .before .before .before .before .args .q) (c .before .before .before .before .before .before .before .args .d) (c .before .before .before .before .before .before .before .args .level) (c .before .before .before .before .before .before .column .result) (c .before .before .before .before .before .column2 .result) (c .before .before .before .before .before .before .column .ensures) (c .before .before .before .before .before .column2 .ensures) (c .before .before .before .enum-told2 .given .1)
+    let wide4 = c .before .before .wide4 in
+    let wide5 = c .before .wide5 in
+    let column = c .before .before .before .before .before .before .column in
+    let the-a = c .before .before .before .before .before .before .before .args in
+    let column2 = c .before .before .before .before .before .column2 in
+    let a : wide4 .result + wide5 .result ≡ column .result + the-a .level = omega (arith, wide4 .ensures, wide5 .ensures) in
+    ap₂ (λ (x y : ℕ). ltb x y) a (c .wide6 .ensures) ∙ exists-right (the-a .g) (the-a .q) (the-a .d) (the-a .level) (column .result) (column2 .result) (column .ensures) (column2 .ensures) (c .before .before .before .enum-told2 .given .1)
 
 returns-3 : tie.Need-returns-3
-returns-3 c = exists-down (c .before .before .before .before .args .g) (c .before .before .before .before .args .q) (c .before .before .before .before .args .d) (c .before .before .before .before .args .level) (c .before .before .before .column .result) (c .before .before .column2 .result) (c .before .before .before .column .ensures) (c .before .before .column2 .ensures) (c .enum-told3 .given .1)
+returns-3 c =
+    let a = c .before .before .before .before .args in
+    let column = c .before .before .before .column in
+    let column2 = c .before .before .column2 in
+    exists-down (a .g) (a .q) (a .d) (a .level) (column .result) (column2 .result) (column .ensures) (column2 .ensures) (c .enum-told3 .given .1)
 
 returns-4 : tie.Need-returns-4
-returns-4 c = exists-left (c .before .before .before .before .args .g) (c .before .before .before .before .args .q) (c .before .before .before .before .args .d) (c .before .before .before .before .args .level) (c .before .before .before .column .result) (c .before .before .column2 .result) (c .before .before .before .column .ensures) (c .before .before .column2 .ensures) (c .enum-told4 .given .1)
+returns-4 c =
+    let a = c .before .before .before .before .args in
+    let column = c .before .before .before .column in
+    let column2 = c .before .before .column2 in
+    exists-left (a .g) (a .q) (a .d) (a .level) (column .result) (column2 .result) (column .ensures) (column2 .ensures) (c .enum-told4 .given .1)
 
 pub group-exists-spec : {M : Type 1} → statement M
 group-exists-spec =

@@ -16,7 +16,10 @@ encode-requires : tie.Need-encode-requires
 encode-requires c κs = search needs
 
 returns : tie.Need-returns
-returns c = group-row (c .before .before .args .g) (c .before .before .args .q) (c .encode .result) (c .before .before .args .d) (c .before .before .args .level) (c .before .group-gap .result) (c .before .group-gap .ensures .0) (c .encode .ensures)
+returns c =
+    let a = c .before .before .args in
+    let group-gap = c .before .group-gap in
+    group-row (a .g) (a .q) (c .encode .result) (a .d) (a .level) (group-gap .result) (group-gap .ensures .0) (c .encode .ensures)
 
 pub group-row-spec : {M : Type 1} → statement M
 group-row-spec = tie.close (tie.spec group-gap-requires mul-t7 encode-requires returns)

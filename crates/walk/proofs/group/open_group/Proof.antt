@@ -19,24 +19,41 @@ spoil-requires : tie.Need-spoil-requires
 spoil-requires c κs = search needs
 
 returns : tie.Need-returns
-returns c = rw (c .spoil .ensures) (spoilt (c .before .before .before .before .args .front .now) (c .before .before .before .before .args .batch .now) (c .before .before .before .before .args .f) _ (c .before .before .before .before .pre .0) (group-lost (c .before .before .before .before .args .g) (c .before .before .before .before .args .q) (c .before .before .before .before .args .d) (c .before .before .before .before .args .level) _ _ (c .before .if1 .taken)))
+returns c =
+    let a = c .before .before .before .before .args in
+    let pre = c .before .before .before .before .pre in
+    rw (c .spoil .ensures) (spoilt (a .front .now) (a .batch .now) (a .f) _ (pre .0) (group-lost (a .g) (a .q) (a .d) (a .level) _ _ (c .before .if1 .taken)))
 
 group-exists-requires : tie.Need-group-exists-requires
 group-exists-requires c κs = search needs
 
 group-tiles-requires : tie.Need-group-tiles-requires
-group-tiles-requires c κs = let l = c .before .before .if1 .left in (c .before .before .before .before .before .pre .1, omega arith, sym (c .before .group-exists .ensures) ∙ c .if2 .taken)
+group-tiles-requires c κs =
+    let pre = c .before .before .before .before .before .pre in
+    let l = c .before .before .if1 .left in (pre .1, omega arith, sym (c .before .group-exists .ensures) ∙ c .if2 .taken)
 
 add-tiles-requires : tie.Need-add-tiles-requires
 add-tiles-requires c κs =
-    let e = sym (c .before .before .before .before .group-exists .ensures) ∙ c .before .before .before .if2 .taken in
-    (c .before .before .before .before .before .before .before .before .pre .0, ((c .before .before .before .before .before .before .before .before .pre .1, c .before .before .group-tiles .ensures .close, c .before .before .group-tiles .ensures .few), lies-on (c .before .before .before .before .before .before .before .before .args .g) (c .before .before .before .before .before .before .before .before .args .q) (c .before .before .before .before .before .before .before .before .args .d) (c .before .before .before .before .before .before .before .before .args .level) (c .before .before .before .before .before .before .before .before .pre .1) e (c .before .before .group-tiles .result) (c .before .before .group-tiles .ensures)))
+    let group-exists = c .before .before .before .before .group-exists in
+    let pre = c .before .before .before .before .before .before .before .before .pre in
+    let group-tiles = c .before .before .group-tiles in
+    let a = c .before .before .before .before .before .before .before .before .args in
+    let e = sym (group-exists .ensures) ∙ c .before .before .before .if2 .taken in
+    (pre .0, ((pre .1, group-tiles .ensures .close, group-tiles .ensures .few), lies-on (a .g) (a .q) (a .d) (a .level) (pre .1) e (group-tiles .result) (group-tiles .ensures)))
 
 add-add-group : tie.Need-add-add-group
-add-add-group c = omega (arith, group-in-range (c .before .before .before .before .before .before .before .before .before .before .before .before .before .before .before .args .g) (c .before .before .before .before .before .before .before .before .before .before .before .before .before .before .before .args .q) (c .before .before .before .before .before .before .before .before .before .before .before .before .before .before .before .args .d) (c .before .before .before .before .before .before .before .before .before .before .before .before .before .before .before .args .level) (c .before .before .before .before .before .before .before .before .before .before .before .before .before .before .before .pre .1 .sizes) (c .before .before .before .before .before .before .before .before .before .before .before .before .before .before .before .pre .1 .point) (sym (c .before .before .before .before .before .before .before .before .before .before .before .group-exists .ensures) ∙ c .before .before .before .before .before .before .before .before .before .before .if2 .taken))
+add-add-group c =
+    let a = c .before .before .before .before .before .before .before .before .before .before .before .before .before .before .before .args in
+    let pre = c .before .before .before .before .before .before .before .before .before .before .before .before .before .before .before .pre in
+    let group-exists = c .before .before .before .before .before .before .before .before .before .before .before .group-exists in
+    let if2 = c .before .before .before .before .before .before .before .before .before .before .if2 in
+    omega (arith, group-in-range (a .g) (a .q) (a .d) (a .level) (pre .1 .sizes) (pre .1 .point) (sym (group-exists .ensures) ∙ if2 .taken))
 
 add-group-requires : tie.Need-add-group-requires
-add-group-requires c κs = (c .before .before .before .before .before .before .add-tiles .ensures .safe, c .before .before .before .before .before .before .before .before .before .before .before .before .before .before .before .pre .1)
+add-group-requires c κs =
+    let add-tiles = c .before .before .before .before .before .before .add-tiles in
+    let pre = c .before .before .before .before .before .before .before .before .before .before .before .before .before .before .before .pre in
+    (add-tiles .ensures .safe, pre .1)
 
 same-length : tie.Need-same-length
 same-length c = search needs
@@ -46,20 +63,31 @@ same-length-2 c = search needs
 
 returns-2 : tie.Need-returns-2
 returns-2 c =
-    let e = sym (c .before .before .before .before .before .before .before .before .before .before .before .before .before .before .before .before .group-exists .ensures) ∙ c .before .before .before .before .before .before .before .before .before .before .before .before .before .before .before .if2 .taken in
-    let s = stands (c .before .before .before .before .before .before .before .before .before .before .before .before .before .before .before .before .before .before .before .before .args .front .now) (c .before .before .before .before .before .before .before .before .before .before .before .before .before .before .before .before .before .before .before .before .args .batch .now) (c .before .before .before .before .before .before .before .before .before .before .before .before .before .before .before .before .before .before .before .before .args .f) in
-    let next = itemRows (c .before .before .before .before .before .before .before .before .before .before .before .before .before .before .before .before .before .before .before .before .args .g) (c .before .before .before .before .before .before .before .before .before .before .before .before .before .before .before .before .before .before .before .before .args .q) (groupIf (c .before .before .before .before .before .before .before .before .before .before .before .before .before .before .before .before .before .before .before .before .args .g) (c .before .before .before .before .before .before .before .before .before .before .before .before .before .before .before .before .before .before .before .before .args .q) (c .before .before .before .before .before .before .before .before .before .before .before .before .before .before .before .before .before .before .before .before .args .level + 1) (c .before .before .before .before .before .before .before .before .before .before .before .before .before .before .before .before .before .before .before .before .args .d)) in
-    refilled (c .before .before .before .before .add-group .last .1 .1 .0) (c .before .before .before .before .add-group .last .1 .1 .1 .0) (c .before .before .before .before .add-group .result) _ _ (c .before .before .before .before .add-group .ensures)
-    (ap (λ (x : Got). addAll x next) (c .before .before .before .before .before .before .before .before .before .before .before .add-tiles .ensures .is)
+    let group-exists = c .before .before .before .before .before .before .before .before .before .before .before .before .before .before .before .before .group-exists in
+    let if2 = c .before .before .before .before .before .before .before .before .before .before .before .before .before .before .before .if2 in
+    let a = c .before .before .before .before .before .before .before .before .before .before .before .before .before .before .before .before .before .before .before .before .args in
+    let add-group = c .before .before .before .before .add-group in
+    let add-tiles = c .before .before .before .before .before .before .before .before .before .before .before .add-tiles in
+    let pre = c .before .before .before .before .before .before .before .before .before .before .before .before .before .before .before .before .before .before .before .before .pre in
+    let group-tiles = c .before .before .before .before .before .before .before .before .before .before .before .before .before .before .group-tiles in
+    let if1 = c .before .before .before .before .before .before .before .before .before .before .before .before .before .before .before .before .before .if1 in
+    let e = sym (group-exists .ensures) ∙ if2 .taken in
+    let s = stands (a .front .now) (a .batch .now) (a .f) in
+    let next = itemRows (a .g) (a .q) (groupIf (a .g) (a .q) (a .level + 1) (a .d)) in
+    refilled (add-group .last .1 .1 .0) (add-group .last .1 .1 .1 .0) (add-group .result) _ _ (add-group .ensures)
+    (ap (λ (x : Got). addAll x next) (add-tiles .ensures .is)
     ∙ sym (addAll-append s _ next)
-    ∙ ap (λ (l : List ℕ). addAll s (itemRows (c .before .before .before .before .before .before .before .before .before .before .before .before .before .before .before .before .before .before .before .before .args .g) (c .before .before .before .before .before .before .before .before .before .before .before .before .before .before .before .before .before .before .before .before .args .q) (map Tile l) ++ next)) (lies-tiles (c .before .before .before .before .before .before .before .before .before .before .before .before .before .before .before .before .before .before .before .before .args .g) (c .before .before .before .before .before .before .before .before .before .before .before .before .before .before .before .before .before .before .before .before .args .q) (c .before .before .before .before .before .before .before .before .before .before .before .before .before .before .before .before .before .before .before .before .args .d) (c .before .before .before .before .before .before .before .before .before .before .before .before .before .before .before .before .before .before .before .before .args .level) (c .before .before .before .before .before .before .before .before .before .before .before .before .before .before .before .before .before .before .before .before .pre .1) e (c .before .before .before .before .before .before .before .before .before .before .before .before .before .before .group-tiles .result) (c .before .before .before .before .before .before .before .before .before .before .before .before .before .before .group-tiles .ensures))
-    ∙ group-brings (c .before .before .before .before .before .before .before .before .before .before .before .before .before .before .before .before .before .before .before .before .args .g) (c .before .before .before .before .before .before .before .before .before .before .before .before .before .before .before .before .before .before .before .before .args .q) (c .before .before .before .before .before .before .before .before .before .before .before .before .before .before .before .before .before .before .before .before .args .d) (c .before .before .before .before .before .before .before .before .before .before .before .before .before .before .before .before .before .before .before .before .args .level) s (c .before .before .before .before .before .before .before .before .before .before .before .before .before .before .before .before .before .if1 .left) e)
+    ∙ ap (λ (l : List ℕ). addAll s (itemRows (a .g) (a .q) (map Tile l) ++ next)) (lies-tiles (a .g) (a .q) (a .d) (a .level) (pre .1) e (group-tiles .result) (group-tiles .ensures))
+    ∙ group-brings (a .g) (a .q) (a .d) (a .level) s (if1 .left) e)
 
 spoil-requires-2 : tie.Need-spoil-requires-2
 spoil-requires-2 c κs = search needs
 
 returns-3 : tie.Need-returns-3
-returns-3 c = rw (c .spoil2 .ensures) (spoilt (c .before .before .before .before .before .before .args .front .now) (c .before .before .before .before .before .before .args .batch .now) (c .before .before .before .before .before .before .args .f) _ (c .before .before .before .before .before .before .pre .0) (group-none (c .before .before .before .before .before .before .args .g) (c .before .before .before .before .before .before .args .q) (c .before .before .before .before .before .before .args .d) (c .before .before .before .before .before .before .args .level) _ _ (c .before .before .before .if1 .left) (sym (c .before .before .group-exists .ensures) ∙ c .before .if2 .left)))
+returns-3 c =
+    let a = c .before .before .before .before .before .before .args in
+    let pre = c .before .before .before .before .before .before .pre in
+    rw (c .spoil2 .ensures) (spoilt (a .front .now) (a .batch .now) (a .f) _ (pre .0) (group-none (a .g) (a .q) (a .d) (a .level) _ _ (c .before .before .before .if1 .left) (sym (c .before .before .group-exists .ensures) ∙ c .before .if2 .left)))
 
 pub open-group-spec : {M : Type 1} → statement M
 open-group-spec =

@@ -21,38 +21,69 @@ abbrev μ-loop : tie.MeasureT-loop
 
 -- the test at the loop's head
 test : (c : tie.After-going Inv-loop μ-loop) → goes (c .before .loop .s) (c .before .before .before .before .before .before .before .before .before .args .j) (length (rows (c .before .loop .front))) ≡ c .going .result
-test c = ap (goes (c .before .loop .s) (c .before .before .before .before .before .before .before .before .before .args .j)) (sym (c .before .loop .inv .2)) ∙ sym (c .going .ensures)
+test c =
+    let loop = c .before .loop in
+    let a = c .before .before .before .before .before .before .before .before .before .args in
+    ap (goes (loop .s) (a .j)) (sym (loop .inv .2)) ∙ sym (c .going .ensures)
 
 whole-requires : tie.Need-whole-requires Inv-loop μ-loop
 whole-requires c κs = tt
 
 loop-holds : tie.Need-loop-holds Inv-loop μ-loop
-loop-holds c = (run-all (c .before .before .before .before .before .before .before .args .g) (tables (c .before .before .before .before .before .before .before .args .reg .now) (c .before .before .before .before .before .before .before .args .starts .now) (c .before .before .before .before .before .before .before .args .entries .now)) (c .before .before .before .before .before .before .before .args .q) (c .before .before .before .before .before .before .before .args .front .now) (c .before .before .before .before .before .before .before .args .out .now) (c .before .before .before .before .before .before .before .args .head) (c .before .before .before .before .before .before .before .args .j) (c .before .before .before .before .before .before .before .pre .1 .0), refl, c .whole .ensures)
+loop-holds c =
+    let a = c .before .before .before .before .before .before .before .args in
+    let pre = c .before .before .before .before .before .before .before .pre in
+    let lent = tables (a .reg .now) (a .starts .now) (a .entries .now) in
+    (run-all (a .g) lent (a .q) (a .front .now) (a .out .now) (a .head) (a .j) (pre .1 .0), refl, c .whole .ensures)
 
 going-requires : tie.Need-going-requires Inv-loop μ-loop
 going-requires c κs = tt
 
 slice-aggregate-take-one : tie.Need-slice-aggregate-take-one Inv-loop μ-loop
-slice-aggregate-take-one c = sym (c .before .before .before .before .loop .inv .1)
+slice-aggregate-take-one c =
+    let loop = c .before .before .before .before .loop in
+    sym (loop .inv .1)
 
 take-one-requires : tie.Need-take-one-requires Inv-loop μ-loop
 take-one-requires c κs =
-    let p = c .before .before .before .before .before .before .before .before .before .before .before .before .before .pre .1 in
-    let i = c .before .before .before .before .before .loop .inv .0 .out-size in
-    let k = c .before .before .before .before .before .loop .inv .1 in
-    let y = goes-yes (c .before .before .before .before .before .loop .s) (c .before .before .before .before .before .before .before .before .before .before .before .before .before .args .j) (length (rows (c .before .before .before .before .before .loop .front))) (test (c .before .before .before .before) ∙ c .before .before .before .if1 .taken) in
-    let n = length-rows (c .before .before .before .before .before .loop .batch) in
-    (c .before .before .before .before .before .before .before .before .before .before .before .before .before .pre .0, (y .0, y .2, omega arith, omega arith))
+    let pre = c .before .before .before .before .before .before .before .before .before .before .before .before .before .pre in
+    let loop = c .before .before .before .before .before .loop in
+    let a = c .before .before .before .before .before .before .before .before .before .before .before .before .before .args in
+    let after-going = c .before .before .before .before in
+    let p = pre .1 in
+    let i = loop .inv .0 .out-size in
+    let k = loop .inv .1 in
+    let y = goes-yes (loop .s) (a .j) (length (rows (loop .front))) (test after-going ∙ c .before .before .before .if1 .taken) in
+    let n = length-rows (loop .batch) in
+    (pre .0, (y .0, y .2, omega arith, omega arith))
 
 loop-less : tie.Need-loop-less Inv-loop μ-loop
-loop-less c = run-falls (c .before .before .before .before .before .before .before .before .before .before .before .before .before .before .before .before .before .before .before .args .g) (tables (c .before .before .before .before .before .before .before .before .before .before .before .before .before .before .before .before .before .before .before .args .reg .now) (c .before .before .before .before .before .before .before .before .before .before .before .before .before .before .before .before .before .before .before .args .starts .now) (c .before .before .before .before .before .before .before .before .before .before .before .before .before .before .before .before .before .before .before .args .entries .now)) (c .before .before .before .before .before .before .before .before .before .before .before .before .before .before .before .before .before .before .before .args .q) (c .before .before .before .before .before .before .before .before .before .before .before .before .before .before .before .before .before .before .before .args .front .now) (c .before .before .before .before .before .before .before .before .before .before .before .before .before .before .before .before .before .before .before .args .out .now) (c .before .before .before .before .before .before .before .before .before .before .before .before .before .before .before .before .before .before .before .args .head) (c .before .before .before .before .before .before .before .before .before .before .before .before .before .before .before .before .before .before .before .args .j) (c .before .before .before .before .before .before .before .before .before .before .before .loop .front) (c .before .before .before .before .before .before .before .before .before .before .before .loop .out) (c .before .before .before .before .before .before .before .before .before .before .before .loop .s) (c .before .before .before .before .before .before .before .before .before .before .before .loop .inv .0) (test (c .before .before .before .before .before .before .before .before .before .before) ∙ c .before .before .before .before .before .before .before .before .before .if1 .taken) (c .before .before .before .before .before .take-one .last .1 .1 .1 .1 .1 .0) (c .before .before .before .before .before .take-one .last .1 .1 .1 .1 .1 .1 .1 .1 .0) (c .before .before .before .before .before .take-one .result) (c .before .before .before .before .before .take-one .kept .1 .1 .1 .1 .1 .0) (c .before .before .before .before .before .take-one .kept .1 .1 .1 .1 .1 .1 .1 .1 .0) (c .before .before .before .before .before .take-one .ensures) (c .before .before .before .before .before .before .before .before .before .before .before .before .before .before .before .before .before .before .before .pre .0 .placed)
+loop-less c =
+    let a = c .before .before .before .before .before .before .before .before .before .before .before .before .before .before .before .before .before .before .before .args in
+    let loop = c .before .before .before .before .before .before .before .before .before .before .before .loop in
+    let after-going = c .before .before .before .before .before .before .before .before .before .before in
+    let if1 = c .before .before .before .before .before .before .before .before .before .if1 in
+    let take-one = c .before .before .before .before .before .take-one in
+    let pre = c .before .before .before .before .before .before .before .before .before .before .before .before .before .before .before .before .before .before .before .pre in
+    let lent = tables (a .reg .now) (a .starts .now) (a .entries .now) in
+    run-falls (a .g) lent (a .q) (a .front .now) (a .out .now) (a .head) (a .j)
+    (loop .front) (loop .out) (loop .s) (loop .inv .0) (test after-going ∙ if1 .taken)
+    (take-one .last .1 .1 .1 .1 .1 .0) (take-one .last .1 .1 .1 .1 .1 .1 .1 .1 .0) (take-one .result) (take-one .kept .1 .1 .1 .1 .1 .0) (take-one .kept .1 .1 .1 .1 .1 .1 .1 .1 .0) (take-one .ensures) (pre .0 .placed)
 
 loop-again : tie.Need-loop-again Inv-loop μ-loop
 loop-again c =
-    let i = c .before .before .before .before .before .before .before .before .before .before .before .loop .inv in (
-      run-step (c .before .before .before .before .before .before .before .before .before .before .before .before .before .before .before .before .before .before .before .args .g) (tables (c .before .before .before .before .before .before .before .before .before .before .before .before .before .before .before .before .before .before .before .args .reg .now) (c .before .before .before .before .before .before .before .before .before .before .before .before .before .before .before .before .before .before .before .args .starts .now) (c .before .before .before .before .before .before .before .before .before .before .before .before .before .before .before .before .before .before .before .args .entries .now)) (c .before .before .before .before .before .before .before .before .before .before .before .before .before .before .before .before .before .before .before .args .q) (c .before .before .before .before .before .before .before .before .before .before .before .before .before .before .before .before .before .before .before .args .front .now) (c .before .before .before .before .before .before .before .before .before .before .before .before .before .before .before .before .before .before .before .args .out .now) (c .before .before .before .before .before .before .before .before .before .before .before .before .before .before .before .before .before .before .before .args .head) (c .before .before .before .before .before .before .before .before .before .before .before .before .before .before .before .before .before .before .before .args .j) (c .before .before .before .before .before .before .before .before .before .before .before .loop .front) (c .before .before .before .before .before .before .before .before .before .before .before .loop .out) (c .before .before .before .before .before .before .before .before .before .before .before .loop .s) (c .before .before .before .before .before .before .before .before .before .before .before .loop .inv .0) (test (c .before .before .before .before .before .before .before .before .before .before) ∙ c .before .before .before .before .before .before .before .before .before .if1 .taken) (c .before .before .before .before .before .take-one .last .1 .1 .1 .1 .1 .0) (c .before .before .before .before .before .take-one .last .1 .1 .1 .1 .1 .1 .1 .1 .0) (c .before .before .before .before .before .take-one .result) (c .before .before .before .before .before .take-one .kept .1 .1 .1 .1 .1 .0) (c .before .before .before .before .before .take-one .kept .1 .1 .1 .1 .1 .1 .1 .1 .0) (c .before .before .before .before .before .take-one .ensures),
-      c .before .before .before .before .before .take-one .kept .1 .1 .1 .1 .1 .1 .0 ∙ i .1,
-      i .2 ∙ sym (same-rows (c .before .before .before .before .before .take-one .last .1 .1 .1 .1 .1 .0) (c .before .before .before .before .before .before .before .before .before .before .before .loop .front) (c .before .before .before .before .before .take-one .kept .1 .1 .1 .1 .1 .0)),
+    let a = c .before .before .before .before .before .before .before .before .before .before .before .before .before .before .before .before .before .before .before .args in
+    let loop = c .before .before .before .before .before .before .before .before .before .before .before .loop in
+    let after-going = c .before .before .before .before .before .before .before .before .before .before in
+    let if1 = c .before .before .before .before .before .before .before .before .before .if1 in
+    let take-one = c .before .before .before .before .before .take-one in
+    let lent = tables (a .reg .now) (a .starts .now) (a .entries .now) in
+    let i = loop .inv in (
+      run-step (a .g) lent (a .q) (a .front .now) (a .out .now) (a .head) (a .j)
+          (loop .front) (loop .out) (loop .s) (loop .inv .0) (test after-going ∙ if1 .taken)
+          (take-one .last .1 .1 .1 .1 .1 .0) (take-one .last .1 .1 .1 .1 .1 .1 .1 .1 .0) (take-one .result) (take-one .kept .1 .1 .1 .1 .1 .0) (take-one .kept .1 .1 .1 .1 .1 .1 .1 .1 .0) (take-one .ensures),
+      take-one .kept .1 .1 .1 .1 .1 .1 .0 ∙ i .1,
+      i .2 ∙ sym (same-rows (take-one .last .1 .1 .1 .1 .1 .0) (loop .front) (take-one .kept .1 .1 .1 .1 .1 .0)),
     )
 
 same-length : tie.Need-same-length Inv-loop μ-loop
@@ -62,7 +93,12 @@ same-length-2 : tie.Need-same-length-2 Inv-loop μ-loop
 same-length-2 c = c .before .before .loop .inv .0 .out-size
 
 returns : tie.Need-returns Inv-loop μ-loop
-returns c = run-end (c .before .before .before .before .before .before .before .before .before .before .args .g) (tables (c .before .before .before .before .before .before .before .before .before .before .args .reg .now) (c .before .before .before .before .before .before .before .before .before .before .args .starts .now) (c .before .before .before .before .before .before .before .before .before .before .args .entries .now)) (c .before .before .before .before .before .before .before .before .before .before .args .q) (c .before .before .before .before .before .before .before .before .before .before .args .front .now) (c .before .before .before .before .before .before .before .before .before .before .args .out .now) (c .before .before .before .before .before .before .before .before .before .before .args .head) (c .before .before .before .before .before .before .before .before .before .before .args .j) (c .before .before .loop .front) (c .before .before .loop .out) (c .before .before .loop .s) (c .before .before .loop .inv .0) (test (c .before) ∙ c .if1 .left)
+returns c =
+    let a = c .before .before .before .before .before .before .before .before .before .before .args in
+    let loop = c .before .before .loop in
+    let lent = tables (a .reg .now) (a .starts .now) (a .entries .now) in
+    run-end (a .g) lent (a .q) (a .front .now) (a .out .now) (a .head) (a .j)
+    (loop .front) (loop .out) (loop .s) (loop .inv .0) (test (c .before) ∙ c .if1 .left)
 
 pub run-spec : {M : Type 1} → statement M
 run-spec =

@@ -14,7 +14,9 @@ bad-entry-requires : tie.Need-bad-entry-requires
 bad-entry-requires c κs = search needs
 
 returns : tie.Need-returns
-returns c = λ t front er lt. hand-bad (c .before .before .before .before .args .g) t (c .before .before .before .before .args .q) (c .before .before .before .before .args .square) (c .before .before .before .before .args .i) front (c .before .before .before .before .args .out .now) (c .before .before .before .before .args .s) lt (ap (λ (l : List ℕ). badEntry (c .before .before .before .before .args .g) l (c .before .before .before .before .args .i)) er ∙ sym (c .before .bad-entry .ensures) ∙ c .if1 .taken)
+returns c =
+    let a = c .before .before .before .before .args in
+    λ t front er lt. hand-bad (a .g) t (a .q) (a .square) (a .i) front (a .out .now) (a .s) lt (ap (λ (l : List ℕ). badEntry (a .g) l (a .i)) er ∙ sym (c .before .bad-entry .ensures) ∙ c .if1 .taken)
 
 give-requires : tie.Need-give-requires
 give-requires c κs = search needs
@@ -30,8 +32,13 @@ same-length c = search needs
 
 returns-2 : tie.Need-returns-2
 returns-2 c =
-    λ t front er lt. hand-fine (c .before .before .before .before .before .before .before .before .args .g) t (c .before .before .before .before .before .before .before .before .args .q) (c .before .before .before .before .before .before .before .before .args .square) (c .before .before .before .before .before .before .before .before .args .i) front (c .before .before .before .before .before .before .before .before .args .out .now) (c .before .before .before .before .before .before .before .before .args .s) lt (ap (λ (l : List ℕ). badEntry (c .before .before .before .before .before .before .before .before .args .g) l (c .before .before .before .before .before .before .before .before .args .i)) er ∙ sym (c .before .before .before .before .before .bad-entry .ensures) ∙ c .before .before .before .before .if1 .left) (c .before .before .before .before .before .before .before .before .pre .1) (c .before .before .give .last .1 .1 .1 .1 .1 .1 .0)
-    (c .before .before .give .ensures ∙ ap (λ (l : List ℕ). take (rowNumbers * c .before .before .before .before .before .before .before .before .args .s .given) (c .before .before .before .before .before .before .before .before .args .out .now) ++ (rowWrites (c .before .before .before .before .before .before .before .before .args .g) l (c .before .before .before .before .before .before .before .before .args .q) (c .before .before .before .before .before .before .before .before .args .i) (c .before .before .before .before .before .before .before .before .args .square) ++ drop (rowNumbers * (c .before .before .before .before .before .before .before .before .args .s .given + 1)) (c .before .before .before .before .before .before .before .before .args .out .now))) (sym er))
+    let a = c .before .before .before .before .before .before .before .before .args in
+    let bad-entry = c .before .before .before .before .before .bad-entry in
+    let if1 = c .before .before .before .before .if1 in
+    let pre = c .before .before .before .before .before .before .before .before .pre in
+    let give = c .before .before .give in
+    λ t front er lt. hand-fine (a .g) t (a .q) (a .square) (a .i) front (a .out .now) (a .s) lt (ap (λ (l : List ℕ). badEntry (a .g) l (a .i)) er ∙ sym (bad-entry .ensures) ∙ if1 .left) (pre .1) (give .last .1 .1 .1 .1 .1 .1 .0)
+    (give .ensures ∙ ap (λ (l : List ℕ). take (rowNumbers * a .s .given) (a .out .now) ++ (rowWrites (a .g) l (a .q) (a .i) (a .square) ++ drop (rowNumbers * (a .s .given + 1)) (a .out .now))) (sym er))
 
 pub take-footprint-spec : {M : Type 1} → statement M
 take-footprint-spec =

@@ -32,11 +32,15 @@ same-length-2 c = search needs
 returns : tie.Need-returns
 unfolding itemMove
 returns c =
+    let a = c .before .before .before .before .before .before .before .before .before .before .before .before .before .before .args in
+    let open-group = c .before .before .before .before .before .before .before .before .before .open-group in
+    let close = c .before .before .close in
+    let pre = c .before .before .before .before .before .before .before .before .before .before .before .before .before .before .pre in
     λ t square out.
-    let b = eqb (c .before .before .before .before .before .before .before .before .before .before .before .before .before .before .args .level) 0 || not (groupExists (c .before .before .before .before .before .before .before .before .before .before .before .before .before .before .args .g) (c .before .before .before .before .before .before .before .before .before .before .before .before .before .before .args .q) (c .before .before .before .before .before .before .before .before .before .before .before .before .before .before .args .d) (c .before .before .before .before .before .before .before .before .before .before .before .before .before .before .args .level)) in
-    opened-moved (c .before .before .before .before .before .before .before .before .before .before .before .before .before .before .args .front .now) (c .before .before .before .before .before .before .before .before .before .before .before .before .before .before .args .batch .now) (c .before .before .before .before .before .before .before .before .before .open-group .last .1 .1 .0) (c .before .before .before .before .before .before .before .before .before .open-group .last .1 .1 .1 .0) (c .before .before .close .last .0) (c .before .before .before .before .before .before .before .before .before .before .before .before .before .before .args .s) (c .before .before .close .result) (c .before .before .before .before .before .before .before .before .before .open-group .result) b
-    (itemRows (c .before .before .before .before .before .before .before .before .before .before .before .before .before .before .args .g) (c .before .before .before .before .before .before .before .before .before .before .before .before .before .before .args .q) (groupBrings (c .before .before .before .before .before .before .before .before .before .before .before .before .before .before .args .g) (c .before .before .before .before .before .before .before .before .before .before .before .before .before .before .args .q) (c .before .before .before .before .before .before .before .before .before .before .before .before .before .before .args .d) (c .before .before .before .before .before .before .before .before .before .before .before .before .before .before .args .level))) (c .before .before .before .before .before .before .before .before .before .before .before .before .before .before .pre .1 .0) (c .before .before .before .before .before .before .before .before .before .open-group .ensures) (c .before .before .close .ensures) _
-    (ap (λ (l : List Three). damageIf b (bring l)) (brings-alone (c .before .before .before .before .before .before .before .before .before .before .before .before .before .before .args .g) (t .reg) (c .before .before .before .before .before .before .before .before .before .before .before .before .before .before .args .q) (c .before .before .before .before .before .before .before .before .before .before .before .before .before .before .args .d) (c .before .before .before .before .before .before .before .before .before .before .before .before .before .before .args .level))) out
+    let b = eqb (a .level) 0 || not (groupExists (a .g) (a .q) (a .d) (a .level)) in
+    opened-moved (a .front .now) (a .batch .now) (open-group .last .1 .1 .0) (open-group .last .1 .1 .1 .0) (close .last .0) (a .s) (close .result) (open-group .result) b
+    (itemRows (a .g) (a .q) (groupBrings (a .g) (a .q) (a .d) (a .level))) (pre .1 .0) (open-group .ensures) (close .ensures) _
+    (ap (λ (l : List Three). damageIf b (bring l)) (brings-alone (a .g) (t .reg) (a .q) (a .d) (a .level))) out
 
 pub take-group-spec : {M : Type 1} → statement M
 take-group-spec =

@@ -31,16 +31,31 @@ same-length-3 c = search needs
 
 returns : tie.Need-returns
 returns c =
-    let p = c .before .before .before .before .before .before .before .before .before .before .before .before .before .before .before .before .before .before .before .before .before .before .pre .1 in
-    taken-known (c .before .before .before .before .before .before .before .before .before .before .before .before .before .before .before .before .before .before .before .before .before .before .args .g) (tables (c .before .before .before .before .before .before .before .before .before .before .before .before .before .before .before .before .before .before .before .before .before .before .args .reg .now) (c .before .before .before .before .before .before .before .before .before .before .before .before .before .before .before .before .before .before .before .before .before .before .args .starts .now) (c .before .before .before .before .before .before .before .before .before .before .before .before .before .before .before .before .before .before .before .before .before .before .args .entries .now)) (c .before .before .before .before .before .before .before .before .before .before .before .before .before .before .before .before .before .before .before .before .before .before .args .q) (c .before .before .before .before .before .before .before .before .before .before .before .before .before .before .before .before .before .before .before .before .before .before .args .front .now) (c .before .before .before .before .before .before .before .before .before .before .before .before .before .before .before .before .before .before .before .before .before .before .args .out .now) (c .before .before .before .before .before .before .before .before .before .before .before .before .before .before .before .before .before .before .before .before .before .before .args .s) (p .0) (p .1) (c .before .before .before .before .before .before .before .before .before .before .before .before .before .before .row-at .result) (c .before .before .before .before .before .before .before .before .before .before .before .before .before .decode .result) (c .before .before .before .before .before .before .before .before .before .before .before .before .before .before .row-at .ensures) (c .before .before .before .before .before .before .before .before .before .before .before .before .before .decode .ensures) (c .before .before .before .before .before .before .before .before .before .before .before .read .given .0 .0) (c .before .before .before .before .before .before .before .before .before .before .before .read .given .1) (c .before .before .before .before .before .before .take-item .last .1 .1 .1 .1 .1 .0) (c .before .before .before .before .before .before .take-item .last .1 .1 .1 .1 .1 .1 .1 .1 .1 .1 .0) (c .before .before .before .before .before .before .take-item .result) (c .before .before .before .before .before .before .take-item .ensures)
+    let a = c .before .before .before .before .before .before .before .before .before .before .before .before .before .before .before .before .before .before .before .before .before .before .args in
+    let pre = c .before .before .before .before .before .before .before .before .before .before .before .before .before .before .before .before .before .before .before .before .before .before .pre in
+    let row-at = c .before .before .before .before .before .before .before .before .before .before .before .before .before .before .row-at in
+    let decode = c .before .before .before .before .before .before .before .before .before .before .before .before .before .decode in
+    let read = c .before .before .before .before .before .before .before .before .before .before .before .read in
+    let take-item = c .before .before .before .before .before .before .take-item in
+    let lent = tables (a .reg .now) (a .starts .now) (a .entries .now) in
+    let p = pre .1 in
+    taken-known (a .g) lent (a .q) (a .front .now) (a .out .now) (a .s) (p .0) (p .1)
+    (row-at .result) (decode .result) (row-at .ensures) (decode .ensures) (read .given .0 .0) (read .given .1)
+    (take-item .last .1 .1 .1 .1 .1 .0) (take-item .last .1 .1 .1 .1 .1 .1 .1 .1 .1 .1 .0) (take-item .result) (take-item .ensures)
 
 same-length-4 : tie.Need-same-length-4
 same-length-4 c = search needs
 
 returns-2 : tie.Need-returns-2
 returns-2 c =
-    let p = c .before .before .before .before .before .before .before .before .before .before .before .pre .1 in
-    taken-unknown (c .before .before .before .before .before .before .before .before .before .before .before .args .g) (tables (c .before .before .before .before .before .before .before .before .before .before .before .args .reg .now) (c .before .before .before .before .before .before .before .before .before .before .before .args .starts .now) (c .before .before .before .before .before .before .before .before .before .before .before .args .entries .now)) (c .before .before .before .before .before .before .before .before .before .before .before .args .q) (c .before .before .before .before .before .before .before .before .before .before .before .args .front .now) (c .before .before .before .before .before .before .before .before .before .before .before .args .out .now) (c .before .before .before .before .before .before .before .before .before .before .before .args .s) (p .0) (p .1) (c .before .before .before .row-at .result) (c .before .before .decode .result) (c .before .before .before .row-at .ensures) (c .before .before .decode .ensures) (c .enum-told .given .1)
+    let a = c .before .before .before .before .before .before .before .before .before .before .before .args in
+    let pre = c .before .before .before .before .before .before .before .before .before .before .before .pre in
+    let row-at = c .before .before .before .row-at in
+    let decode = c .before .before .decode in
+    let lent = tables (a .reg .now) (a .starts .now) (a .entries .now) in
+    let p = pre .1 in
+    taken-unknown (a .g) lent (a .q) (a .front .now) (a .out .now) (a .s) (p .0) (p .1)
+    (row-at .result) (decode .result) (row-at .ensures) (decode .ensures) (c .enum-told .given .1)
 
 pub take-one-spec : {M : Type 1} → statement M
 take-one-spec =

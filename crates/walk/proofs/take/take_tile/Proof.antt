@@ -15,7 +15,11 @@ use Rattle.walk.proofs.take.take_tile.Statement.{statement}
 use Rattle.walk.proofs.take.take_tile.Tie as tie
 
 add-t14 : tie.Need-add-t14
-add-t14 c = let p = c .before .before .before .before .before .pre .1 in let n = length-rows (c .before .before .before .before .before .args .front .now) in let g = c .before .before .before .before .before .good in omega arith
+add-t14 c =
+    let pre = c .before .before .before .before .before .pre in
+    let a = c .before .before .before .before .before .args in
+    let good = c .before .before .before .before .before .good in
+    let p = pre .1 in let n = length-rows (a .front .now) in let g = good in omega arith
 
 open-tile-requires : tie.Need-open-tile-requires
 open-tile-requires c κs = search needs
@@ -32,10 +36,15 @@ same-length-2 c = search needs
 returns : tie.Need-returns
 unfolding itemMove
 returns c =
+    let a = c .before .before .before .before .before .before .before .before .before .before .before .before .before .before .before .before .before .args in
+    let open-tile = c .before .before .before .before .before .before .before .before .before .open-tile in
+    let close = c .before .before .close in
+    let pre = c .before .before .before .before .before .before .before .before .before .before .before .before .before .before .before .before .before .pre in
+    let lent = tables (a .reg .now) (a .starts .now) (a .entries .now) in
     λ square out.
-    opened-moved (c .before .before .before .before .before .before .before .before .before .before .before .before .before .before .before .before .before .args .front .now) (c .before .before .before .before .before .before .before .before .before .before .before .before .before .before .before .before .before .args .batch .now) (c .before .before .before .before .before .before .before .before .before .open-tile .last .1 .1 .1 .1 .1 .0) (c .before .before .before .before .before .before .before .before .before .open-tile .last .1 .1 .1 .1 .1 .1 .0) (c .before .before .close .last .0) (c .before .before .before .before .before .before .before .before .before .before .before .before .before .before .before .before .before .args .s) (c .before .before .close .result) (c .before .before .before .before .before .before .before .before .before .open-tile .result)
-    (leb (tileCount (c .before .before .before .before .before .before .before .before .before .before .before .before .before .before .before .before .before .args .g)) (c .before .before .before .before .before .before .before .before .before .before .before .before .before .before .before .before .before .args .tile) || not (goodRuns (c .before .before .before .before .before .before .before .before .before .before .before .before .before .before .before .before .before .args .g) (tables (c .before .before .before .before .before .before .before .before .before .before .before .before .before .before .before .before .before .args .reg .now) (c .before .before .before .before .before .before .before .before .before .before .before .before .before .before .before .before .before .args .starts .now) (c .before .before .before .before .before .before .before .before .before .before .before .before .before .before .before .before .before .args .entries .now)) (allowedRuns (c .before .before .before .before .before .before .before .before .before .before .before .before .before .before .before .before .before .args .g) (c .before .before .before .before .before .before .before .before .before .before .before .before .before .before .before .before .before .args .q) (c .before .before .before .before .before .before .before .before .before .before .before .before .before .before .before .before .before .args .tile))))
-    (map (waitingRow (c .before .before .before .before .before .before .before .before .before .before .before .before .before .before .before .before .before .args .g) (c .before .before .before .before .before .before .before .before .before .before .before .before .before .before .before .before .before .args .reg .now) (c .before .before .before .before .before .before .before .before .before .before .before .before .before .before .before .before .before .args .q)) (tileBrings (c .before .before .before .before .before .before .before .before .before .before .before .before .before .before .before .before .before .args .g) (tables (c .before .before .before .before .before .before .before .before .before .before .before .before .before .before .before .before .before .args .reg .now) (c .before .before .before .before .before .before .before .before .before .before .before .before .before .before .before .before .before .args .starts .now) (c .before .before .before .before .before .before .before .before .before .before .before .before .before .before .before .before .before .args .entries .now)) (c .before .before .before .before .before .before .before .before .before .before .before .before .before .before .before .before .before .args .q) (c .before .before .before .before .before .before .before .before .before .before .before .before .before .before .before .before .before .args .tile))) (c .before .before .before .before .before .before .before .before .before .before .before .before .before .before .before .before .before .pre .1 .0) (c .before .before .before .before .before .before .before .before .before .open-tile .ensures) (c .before .before .close .ensures) _ refl out
+    opened-moved (a .front .now) (a .batch .now) (open-tile .last .1 .1 .1 .1 .1 .0) (open-tile .last .1 .1 .1 .1 .1 .1 .0) (close .last .0) (a .s) (close .result) (open-tile .result)
+    (leb (tileCount (a .g)) (a .tile) || not (goodRuns (a .g) lent (allowedRuns (a .g) (a .q) (a .tile))))
+    (map (waitingRow (a .g) (a .reg .now) (a .q)) (tileBrings (a .g) lent (a .q) (a .tile))) (pre .1 .0) (open-tile .ensures) (close .ensures) _ refl out
 
 pub take-tile-spec : {M : Type 1} → statement M
 take-tile-spec =

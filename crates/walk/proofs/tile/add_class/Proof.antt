@@ -16,8 +16,10 @@ use Rattle.walk.proofs.tile.add_class.Tie as tie
 -- the run that the mask allows
 run : (c : tie.After-wide2) → (16 * c .before .wide .result + c .wide2 .result) ∷ [] ≡ runOf (c .before .before .before .before .before .before .before .before .before .args .tile) (c .before .before .before .before .before .before .before .before .before .args .mask) (c .before .before .before .before .before .before .before .before .before .args .class)
 run c =
-    let k : 16 * c .before .wide .result + c .wide2 .result ≡ 16 * c .before .before .before .before .before .before .before .before .before .args .tile + c .before .before .before .before .before .before .before .before .before .args .class = omega (arith, c .before .wide .ensures, c .wide2 .ensures) in
-    class-on (c .before .before .before .before .before .before .before .before .before .args .tile) (c .before .before .before .before .before .before .before .before .before .args .mask) (c .before .before .before .before .before .before .before .before .before .args .class) (16 * c .before .wide .result + c .wide2 .result) (sym (c .before .before .before .is-on .ensures) ∙ c .before .before .if1 .taken) k
+    let wide = c .before .wide in
+    let a = c .before .before .before .before .before .before .before .before .before .args in
+    let k : 16 * wide .result + c .wide2 .result ≡ 16 * a .tile + a .class = omega (arith, wide .ensures, c .wide2 .ensures) in
+    class-on (a .tile) (a .mask) (a .class) (16 * wide .result + c .wide2 .result) (sym (c .before .before .before .is-on .ensures) ∙ c .before .before .if1 .taken) k
 
 is-on-requires : tie.Need-is-on-requires
 is-on-requires c κs = search needs
@@ -58,8 +60,16 @@ wide-requires-4 c κs = search needs
 add-part-requires : tie.Need-add-part-requires
 unfolding runStart runEnd
 add-part-requires c κs =
-    let p = run-good (c .before .before .before .before .before .before .before .before .before .before .before .before .before .before .before .args .g) (tables (c .before .before .before .before .before .before .before .before .before .before .before .before .before .before .before .args .reg .now) (c .before .before .before .before .before .before .before .before .before .before .before .before .before .before .before .args .starts .now) (c .before .before .before .before .before .before .before .before .before .before .before .before .before .before .before .args .entries .now)) (16 * c .before .before .before .before .before .before .before .wide .result + c .before .before .before .before .before .before .wide2 .result) (c .before .before .before .before .wide3 .result) (c .before .before .wide4 .result) (c .before .before .before .before .wide3 .ensures) (c .before .before .wide4 .ensures) (ap (goodRuns (c .before .before .before .before .before .before .before .before .before .before .before .before .before .before .before .args .g) (tables (c .before .before .before .before .before .before .before .before .before .before .before .before .before .before .before .args .reg .now) (c .before .before .before .before .before .before .before .before .before .before .before .before .before .before .before .args .starts .now) (c .before .before .before .before .before .before .before .before .before .before .before .before .before .before .before .args .entries .now))) (run (c .before .before .before .before .before .before)) ∙ c .before .before .before .before .before .before .before .before .before .before .before .before .before .before .before .pre .1 .1 .1) in
-    (c .before .before .before .before .before .before .before .before .before .before .before .before .before .before .before .pre .0, (c .before .before .before .before .before .before .before .before .before .before .before .before .before .before .before .pre .1 .0, p))
+    let a = c .before .before .before .before .before .before .before .before .before .before .before .before .before .before .before .args in
+    let wide = c .before .before .before .before .before .before .before .wide in
+    let wide2 = c .before .before .before .before .before .before .wide2 in
+    let wide3 = c .before .before .before .before .wide3 in
+    let wide4 = c .before .before .wide4 in
+    let after-wide2 = c .before .before .before .before .before .before in
+    let pre = c .before .before .before .before .before .before .before .before .before .before .before .before .before .before .before .pre in
+    let lent = tables (a .reg .now) (a .starts .now) (a .entries .now) in
+    let p = run-good (a .g) lent (16 * wide .result + wide2 .result) (wide3 .result) (wide4 .result) (wide3 .ensures) (wide4 .ensures) (ap (goodRuns (a .g) lent) (run after-wide2) ∙ pre .1 .1 .1) in
+    (pre .0, (pre .1 .0, p))
 
 same-length : tie.Need-same-length
 same-length c = search needs
@@ -70,15 +80,26 @@ same-length-2 c = search needs
 returns : tie.Need-returns
 unfolding runStart runEnd
 returns c =
-    let s = stands (c .before .before .before .before .before .before .before .before .before .before .before .before .before .before .before .before .before .before .before .before .args .front .now) (c .before .before .before .before .before .before .before .before .before .before .before .before .before .before .before .before .before .before .before .before .args .batch .now) (c .before .before .before .before .before .before .before .before .before .before .before .before .before .before .before .before .before .before .before .before .args .f) in
-    refilled (c .before .before .before .before .add-part .last .1 .1 .1 .1 .0) (c .before .before .before .before .add-part .last .1 .1 .1 .1 .1 .0) (c .before .before .before .before .add-part .result) _ _ (c .before .before .before .before .add-part .ensures)
-    (ap (addAll s) (one-run (c .before .before .before .before .before .before .before .before .before .before .before .before .before .before .before .before .before .before .before .before .args .g) (tables (c .before .before .before .before .before .before .before .before .before .before .before .before .before .before .before .before .before .before .before .before .args .reg .now) (c .before .before .before .before .before .before .before .before .before .before .before .before .before .before .before .before .before .before .before .before .args .starts .now) (c .before .before .before .before .before .before .before .before .before .before .before .before .before .before .before .before .before .before .before .before .args .entries .now)) (c .before .before .before .before .before .before .before .before .before .before .before .before .before .before .before .before .before .before .before .before .args .q) (16 * c .before .before .before .before .before .before .before .before .before .before .before .before .wide .result + c .before .before .before .before .before .before .before .before .before .before .before .wide2 .result) (c .before .before .before .before .before .before .before .before .before .wide3 .result) (c .before .before .before .before .before .before .before .wide4 .result) (c .before .before .before .before .before .before .before .before .before .wide3 .ensures) (c .before .before .before .before .before .before .before .wide4 .ensures) ∙ ap (runRows (c .before .before .before .before .before .before .before .before .before .before .before .before .before .before .before .before .before .before .before .before .args .g) (tables (c .before .before .before .before .before .before .before .before .before .before .before .before .before .before .before .before .before .before .before .before .args .reg .now) (c .before .before .before .before .before .before .before .before .before .before .before .before .before .before .before .before .before .before .before .before .args .starts .now) (c .before .before .before .before .before .before .before .before .before .before .before .before .before .before .before .before .before .before .before .before .args .entries .now)) (c .before .before .before .before .before .before .before .before .before .before .before .before .before .before .before .before .before .before .before .before .args .q)) (run (c .before .before .before .before .before .before .before .before .before .before .before))))
+    let a = c .before .before .before .before .before .before .before .before .before .before .before .before .before .before .before .before .before .before .before .before .args in
+    let add-part = c .before .before .before .before .add-part in
+    let wide = c .before .before .before .before .before .before .before .before .before .before .before .before .wide in
+    let wide2 = c .before .before .before .before .before .before .before .before .before .before .before .wide2 in
+    let wide3 = c .before .before .before .before .before .before .before .before .before .wide3 in
+    let wide4 = c .before .before .before .before .before .before .before .wide4 in
+    let after-wide2 = c .before .before .before .before .before .before .before .before .before .before .before in
+    let lent = tables (a .reg .now) (a .starts .now) (a .entries .now) in
+    let s = stands (a .front .now) (a .batch .now) (a .f) in
+    refilled (add-part .last .1 .1 .1 .1 .0) (add-part .last .1 .1 .1 .1 .1 .0) (add-part .result) _ _ (add-part .ensures)
+    (ap (addAll s) (one-run (a .g) lent (a .q) (16 * wide .result + wide2 .result) (wide3 .result) (wide4 .result) (wide3 .ensures) (wide4 .ensures) ∙ ap (runRows (a .g) lent (a .q)) (run after-wide2)))
 
 returns-2 : tie.Need-returns-2
 unfolding addAll
 returns-2 c =
-    let s = stands (c .before .before .before .before .before .before .before .args .front .now) (c .before .before .before .before .before .before .before .args .batch .now) (c .before .before .before .before .before .before .before .args .f) in
-    record { safe = c .before .before .before .before .before .before .before .pre .0; is = ap (λ (l : List ℕ). addAll s (runRows (c .before .before .before .before .before .before .before .args .g) (tables (c .before .before .before .before .before .before .before .args .reg .now) (c .before .before .before .before .before .before .before .args .starts .now) (c .before .before .before .before .before .before .before .args .entries .now)) (c .before .before .before .before .before .before .before .args .q) l)) (class-off (c .before .before .before .before .before .before .before .args .tile) (c .before .before .before .before .before .before .before .args .mask) (c .before .before .before .before .before .before .before .args .class) (sym (c .before .is-on .ensures) ∙ c .if1 .left)) }
+    let a = c .before .before .before .before .before .before .before .args in
+    let pre = c .before .before .before .before .before .before .before .pre in
+    let lent = tables (a .reg .now) (a .starts .now) (a .entries .now) in
+    let s = stands (a .front .now) (a .batch .now) (a .f) in
+    record { safe = pre .0; is = ap (λ (l : List ℕ). addAll s (runRows (a .g) lent (a .q) l)) (class-off (a .tile) (a .mask) (a .class) (sym (c .before .is-on .ensures) ∙ c .if1 .left)) }
 
 pub add-class-spec : {M : Type 1} → statement M
 add-class-spec =

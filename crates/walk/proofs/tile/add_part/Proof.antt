@@ -21,34 +21,59 @@ abbrev μ-loop : tie.MeasureT-loop
 μ-loop g reg entries q front₀ batch₀ begin past h₀ i₀ front batch h i = past - i
 
 loop-holds : tie.Need-loop-holds Inv-loop μ-loop
-loop-holds c = (bring-all (c .before .before .before .before .args .front .now) (c .before .before .before .before .args .batch .now) (c .before .before .before .before .args .f) _ _ refl (c .before .before .before .before .pre .0), c .before .before .before .before .pre .1 .1 .1, refl, refl)
+loop-holds c =
+    let a = c .before .before .before .before .args in
+    let pre = c .before .before .before .before .pre in
+    (bring-all (a .front .now) (a .batch .now) (a .f) _ _ refl (pre .0), pre .1 .1 .1, refl, refl)
 
 mul-footprint-row : tie.Need-mul-footprint-row Inv-loop μ-loop
-mul-footprint-row c = let p = c .before .before .before .before .before .before .pre in let t = c .loop-test .taken in omega arith
+mul-footprint-row c =
+    let pre = c .before .before .before .before .before .before .pre in
+    let p = pre in let t = c .loop-test .taken in omega arith
 
 shared-slice-read-footprint-row : tie.Need-shared-slice-read-footprint-row Inv-loop μ-loop
-shared-slice-read-footprint-row c = let p = c .before .before .before .before .before .before .before .pre in let t = c .before .loop-test .taken in omega arith
+shared-slice-read-footprint-row c =
+    let pre = c .before .before .before .before .before .before .before .pre in
+    let p = pre in let t = c .before .loop-test .taken in omega arith
 
 footprint-row-requires : tie.Need-footprint-row-requires Inv-loop μ-loop
-footprint-row-requires c κs = (c .before .before .before .before .before .before .before .pre .1 .0, part-good (c .before .before .before .before .before .before .before .args .g) (c .before .before .before .before .before .before .before .args .reg .now) (c .before .before .before .before .before .before .before .args .entries .now) (c .before .before .before .before .before .before .before .args .begin) (c .before .before .before .before .before .before .before .args .past) (c .before .before .loop .i) (c .before .loop-test .taken) (c .before .before .before .before .before .before .before .pre .1 .1 .0) (c .before .before .loop .inv .1) .0)
+footprint-row-requires c κs =
+    let pre = c .before .before .before .before .before .before .before .pre in
+    let a = c .before .before .before .before .before .before .before .args in
+    let loop = c .before .before .loop in
+    (pre .1 .0, part-good (a .g) (a .reg .now) (a .entries .now) (a .begin) (a .past) (loop .i) (c .before .loop-test .taken) (pre .1 .1 .0) (loop .inv .1) .0)
 
 add-requires : tie.Need-add-requires Inv-loop μ-loop
-add-requires c κs = c .before .before .before .before .before .loop .inv .0 .safe
+add-requires c κs =
+    let loop = c .before .before .before .before .before .loop in
+    loop .inv .0 .safe
 
 add-i : tie.Need-add-i Inv-loop μ-loop
-add-i c = let p = c .before .before .before .before .before .before .before .before .before .before .before .before .before .before .before .pre in let t = c .before .before .before .before .before .before .before .before .before .loop-test .taken in omega arith
+add-i c =
+    let pre = c .before .before .before .before .before .before .before .before .before .before .before .before .before .before .before .pre in
+    let loop-test = c .before .before .before .before .before .before .before .before .before .loop-test in
+    let p = pre in let t = loop-test .taken in omega arith
 
 loop-less : tie.Need-loop-less Inv-loop μ-loop
-loop-less c = let p = c .before .before .before .before .before .before .before .before .before .before .before .before .before .before .before .pre in let t = c .before .before .before .before .before .before .before .before .before .loop-test .taken in omega arith
+loop-less c =
+    let pre = c .before .before .before .before .before .before .before .before .before .before .before .before .before .before .before .pre in
+    let loop-test = c .before .before .before .before .before .before .before .before .before .loop-test in
+    let p = pre in let t = loop-test .taken in omega arith
 
 loop-again : tie.Need-loop-again Inv-loop μ-loop
 loop-again c =
-    let e = rows-next (c .before .before .before .before .before .before .before .before .before .before .before .before .before .before .before .args .g) (c .before .before .before .before .before .before .before .before .before .before .before .before .before .before .before .args .reg .now) (c .before .before .before .before .before .before .before .before .before .before .before .before .before .before .before .args .entries .now) (c .before .before .before .before .before .before .before .before .before .before .before .before .before .before .before .args .begin) (c .before .before .before .before .before .before .before .before .before .before .before .before .before .before .before .args .past) (c .before .before .before .before .before .before .before .before .before .before .loop .i) (c .before .before .before .before .before .before .before .before .before .loop-test .taken) (c .before .before .before .before .before .before .before .before .before .before .before .before .before .before .before .pre .1 .1 .0) (c .before .before .before .before .before .before .before .before .before .before .before .before .before .before .before .args .q) in
-    let a : Filled (c .before .before .before .before .add .last .0) (c .before .before .before .before .add .last .1 .0) (c .before .before .before .before .add .result) (addTo (stands (c .before .before .before .before .before .before .before .before .before .before .loop .front) (c .before .before .before .before .before .before .before .before .before .before .loop .batch) (c .before .before .before .before .before .before .before .before .before .before .loop .h)) _) = rw (c .before .before .before .before .before .before .before .footprint-row .ensures) at (c .before .before .before .before .add .ensures) in (
-      bring-one (c .before .before .before .before .before .before .before .before .before .before .loop .inv .0) _ _ e a,
-      part-good (c .before .before .before .before .before .before .before .before .before .before .before .before .before .before .before .args .g) (c .before .before .before .before .before .before .before .before .before .before .before .before .before .before .before .args .reg .now) (c .before .before .before .before .before .before .before .before .before .before .before .before .before .before .before .args .entries .now) (c .before .before .before .before .before .before .before .before .before .before .before .before .before .before .before .args .begin) (c .before .before .before .before .before .before .before .before .before .before .before .before .before .before .before .args .past) (c .before .before .before .before .before .before .before .before .before .before .loop .i) (c .before .before .before .before .before .before .before .before .before .loop-test .taken) (c .before .before .before .before .before .before .before .before .before .before .before .before .before .before .before .pre .1 .1 .0) (c .before .before .before .before .before .before .before .before .before .before .loop .inv .1) .1,
-      c .before .before .before .before .add .kept .0 ∙ c .before .before .before .before .before .before .before .before .before .before .loop .inv .2,
-      c .before .before .before .before .add .kept .1 .0 ∙ c .before .before .before .before .before .before .before .before .before .before .loop .inv .3,
+    let the-a = c .before .before .before .before .before .before .before .before .before .before .before .before .before .before .before .args in
+    let loop = c .before .before .before .before .before .before .before .before .before .before .loop in
+    let loop-test = c .before .before .before .before .before .before .before .before .before .loop-test in
+    let pre = c .before .before .before .before .before .before .before .before .before .before .before .before .before .before .before .pre in
+    let add = c .before .before .before .before .add in
+    let footprint-row = c .before .before .before .before .before .before .before .footprint-row in
+    let e = rows-next (the-a .g) (the-a .reg .now) (the-a .entries .now) (the-a .begin) (the-a .past) (loop .i) (loop-test .taken) (pre .1 .1 .0) (the-a .q) in
+    let a : Filled (add .last .0) (add .last .1 .0) (add .result) (addTo (stands (loop .front) (loop .batch) (loop .h)) _) = rw (footprint-row .ensures) at (add .ensures) in (
+      bring-one (loop .inv .0) _ _ e a,
+      part-good (the-a .g) (the-a .reg .now) (the-a .entries .now) (the-a .begin) (the-a .past) (loop .i) (loop-test .taken) (pre .1 .1 .0) (loop .inv .1) .1,
+      add .kept .0 ∙ loop .inv .2,
+      add .kept .1 .0 ∙ loop .inv .3,
     )
 
 same-length : tie.Need-same-length Inv-loop μ-loop
@@ -58,7 +83,10 @@ same-length-2 : tie.Need-same-length-2 Inv-loop μ-loop
 same-length-2 c = c .before .loop .inv .3
 
 returns : tie.Need-returns Inv-loop μ-loop
-returns c = bring-none (c .before .loop .inv .0) (rows-end (c .before .before .before .before .before .before .args .g) (c .before .before .before .before .before .before .args .reg .now) (c .before .before .before .before .before .before .args .entries .now) (c .before .before .before .before .before .before .args .begin) (c .before .before .before .before .before .before .args .past) (c .before .loop .i) (c .before .before .before .before .before .before .args .q) (c .loop-test .left))
+returns c =
+    let loop = c .before .loop in
+    let a = c .before .before .before .before .before .before .args in
+    bring-none (loop .inv .0) (rows-end (a .g) (a .reg .now) (a .entries .now) (a .begin) (a .past) (loop .i) (a .q) (c .loop-test .left))
 
 pub add-part-spec : {M : Type 1} → statement M
 add-part-spec =

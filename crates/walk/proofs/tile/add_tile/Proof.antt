@@ -25,38 +25,60 @@ abbrev μ-loop : tie.MeasureT-loop
 μ-loop g reg starts entries q front₀ batch₀ tile mask h₀ class₀ front batch h class = 16 - class
 
 tile-mask-requires : tie.Need-tile-mask-requires Inv-loop μ-loop
-tile-mask-requires c κs = sized (c .before .before .before .before .before .args .g) (c .before .before .before .before .before .args .q) (c .before .before .before .before .before .pre .1 .0 .placed) .n-pos
+tile-mask-requires c κs =
+    let a = c .before .before .before .before .before .args in
+    let pre = c .before .before .before .before .before .pre in
+    sized (a .g) (a .q) (pre .1 .0 .placed) .n-pos
 
 loop-holds : tie.Need-loop-holds Inv-loop μ-loop
 loop-holds c =
-    let e = runs-all (c .before .before .before .before .before .before .args .tile) (c .tile-mask .result) (c .before .before .before .before .before .before .args .g) (c .before .before .before .before .before .before .args .q) (c .tile-mask .ensures) in
-    (bring-all (c .before .before .before .before .before .before .args .front .now) (c .before .before .before .before .before .before .args .batch .now) (c .before .before .before .before .before .before .args .f) _ _ refl (c .before .before .before .before .before .before .pre .0), ap (goodRuns (c .before .before .before .before .before .before .args .g) (tables (c .before .before .before .before .before .before .args .reg .now) (c .before .before .before .before .before .before .args .starts .now) (c .before .before .before .before .before .before .args .entries .now))) e ∙ c .before .before .before .before .before .before .pre .1 .1 .1, refl, refl)
+    let a = c .before .before .before .before .before .before .args in
+    let pre = c .before .before .before .before .before .before .pre in
+    let lent = tables (a .reg .now) (a .starts .now) (a .entries .now) in
+    let e = runs-all (a .tile) (c .tile-mask .result) (a .g) (a .q) (c .tile-mask .ensures) in
+    (bring-all (a .front .now) (a .batch .now) (a .f) _ _ refl (pre .0), ap (goodRuns (a .g) lent) e ∙ pre .1 .1 .1, refl, refl)
 
 add-class-requires : tie.Need-add-class-requires Inv-loop μ-loop
-add-class-requires c κs = (
-  c .before .before .before .loop .inv .0 .safe,
-  (
-    c .before .before .before .before .before .before .before .before .before .before .pre .1 .0 .placed,
-    (
-      starts-stand (c .before .before .before .before .before .before .before .before .before .before .args .g) (tables (c .before .before .before .before .before .before .before .before .before .before .args .reg .now) (c .before .before .before .before .before .before .before .before .before .before .args .starts .now) (c .before .before .before .before .before .before .before .before .before .before .args .entries .now)) (c .before .before .before .before .before .before .before .before .before .before .pre .1 .0 .lengths) (c .before .before .before .before .before .before .before .before .before .before .args .tile) (c .before .before .before .loop .class) (c .before .before .before .before .before .before .before .before .before .before .pre .1 .1 .0) (c .before .before .loop-test .taken),
-      both-good (c .before .before .before .before .before .before .before .before .before .before .args .g) (tables (c .before .before .before .before .before .before .before .before .before .before .args .reg .now) (c .before .before .before .before .before .before .before .before .before .before .args .starts .now) (c .before .before .before .before .before .before .before .before .before .before .args .entries .now)) (c .before .before .before .before .before .before .before .before .before .before .args .tile) (c .before .before .before .before .tile-mask .result) (c .before .before .before .loop .class) (c .before .before .loop-test .taken) (c .before .before .before .loop .inv .1) .0,
-    ),
-  ),
-)
+add-class-requires c κs =
+    let a = c .before .before .before .before .before .before .before .before .before .before .args in
+    let loop = c .before .before .before .loop in
+    let pre = c .before .before .before .before .before .before .before .before .before .before .pre in
+    let loop-test = c .before .before .loop-test in
+    let tile-mask = c .before .before .before .before .tile-mask in
+    let lent = tables (a .reg .now) (a .starts .now) (a .entries .now) in (
+      loop .inv .0 .safe,
+      (
+        pre .1 .0 .placed,
+        (
+          starts-stand (a .g) lent (pre .1 .0 .lengths) (a .tile) (loop .class) (pre .1 .1 .0) (loop-test .taken),
+          both-good (a .g) lent (a .tile) (tile-mask .result) (loop .class) (loop-test .taken) (loop .inv .1) .0,
+        ),
+      ),
+    )
 
 add-class : tie.Need-add-class Inv-loop μ-loop
-add-class c = let t = c .before .before .before .before .before .before .before .loop-test .taken in omega arith
+add-class c =
+    let loop-test = c .before .before .before .before .before .before .before .loop-test in
+    let t = loop-test .taken in omega arith
 
 loop-less : tie.Need-loop-less Inv-loop μ-loop
-loop-less c = let t = c .before .before .before .before .before .before .before .loop-test .taken in omega arith
+loop-less c =
+    let loop-test = c .before .before .before .before .before .before .before .loop-test in
+    let t = loop-test .taken in omega arith
 
 loop-again : tie.Need-loop-again Inv-loop μ-loop
-loop-again c = (
-  bring-some (c .before .before .before .before .before .before .before .before .loop .inv .0) _ _ (class-rows (c .before .before .before .before .before .before .before .before .before .before .before .before .before .before .before .args .g) (tables (c .before .before .before .before .before .before .before .before .before .before .before .before .before .before .before .args .reg .now) (c .before .before .before .before .before .before .before .before .before .before .before .before .before .before .before .args .starts .now) (c .before .before .before .before .before .before .before .before .before .before .before .before .before .before .before .args .entries .now)) (c .before .before .before .before .before .before .before .before .before .before .before .before .before .before .before .args .tile) (c .before .before .before .before .before .before .before .before .before .tile-mask .result) (c .before .before .before .before .before .before .before .before .before .before .before .before .before .before .before .args .q) (c .before .before .before .before .before .before .before .before .loop .class) (c .before .before .before .before .before .before .before .loop-test .taken)) (c .before .before .before .before .add-class .ensures),
-  both-good (c .before .before .before .before .before .before .before .before .before .before .before .before .before .before .before .args .g) (tables (c .before .before .before .before .before .before .before .before .before .before .before .before .before .before .before .args .reg .now) (c .before .before .before .before .before .before .before .before .before .before .before .before .before .before .before .args .starts .now) (c .before .before .before .before .before .before .before .before .before .before .before .before .before .before .before .args .entries .now)) (c .before .before .before .before .before .before .before .before .before .before .before .before .before .before .before .args .tile) (c .before .before .before .before .before .before .before .before .before .tile-mask .result) (c .before .before .before .before .before .before .before .before .loop .class) (c .before .before .before .before .before .before .before .loop-test .taken) (c .before .before .before .before .before .before .before .before .loop .inv .1) .1,
-  c .before .before .before .before .add-class .kept .1 .1 .1 .1 .1 .0 ∙ c .before .before .before .before .before .before .before .before .loop .inv .2,
-  c .before .before .before .before .add-class .kept .1 .1 .1 .1 .1 .1 .0 ∙ c .before .before .before .before .before .before .before .before .loop .inv .3,
-)
+loop-again c =
+    let a = c .before .before .before .before .before .before .before .before .before .before .before .before .before .before .before .args in
+    let loop = c .before .before .before .before .before .before .before .before .loop in
+    let tile-mask = c .before .before .before .before .before .before .before .before .before .tile-mask in
+    let loop-test = c .before .before .before .before .before .before .before .loop-test in
+    let add-class = c .before .before .before .before .add-class in
+    let lent = tables (a .reg .now) (a .starts .now) (a .entries .now) in (
+      bring-some (loop .inv .0) _ _ (class-rows (a .g) lent (a .tile) (tile-mask .result) (a .q) (loop .class) (loop-test .taken)) (add-class .ensures),
+      both-good (a .g) lent (a .tile) (tile-mask .result) (loop .class) (loop-test .taken) (loop .inv .1) .1,
+      add-class .kept .1 .1 .1 .1 .1 .0 ∙ loop .inv .2,
+      add-class .kept .1 .1 .1 .1 .1 .1 .0 ∙ loop .inv .3,
+    )
 
 same-length : tie.Need-same-length Inv-loop μ-loop
 same-length c = c .before .loop .inv .2
@@ -66,11 +88,15 @@ same-length-2 c = c .before .loop .inv .3
 
 returns : tie.Need-returns Inv-loop μ-loop
 returns c =
-    let e = runs-all (c .before .before .before .before .before .before .before .before .args .tile) (c .before .before .tile-mask .result) (c .before .before .before .before .before .before .before .before .args .g) (c .before .before .before .before .before .before .before .before .args .q) (c .before .before .tile-mask .ensures) in
-    let s = stands (c .before .before .before .before .before .before .before .before .args .front .now) (c .before .before .before .before .before .before .before .before .args .batch .now) (c .before .before .before .before .before .before .before .before .args .f) in
-    refilled (c .before .loop .front) (c .before .loop .batch) (c .before .loop .h) _ _
-    (bring-none (c .before .loop .inv .0) (rows-none (c .before .before .before .before .before .before .before .before .args .g) (tables (c .before .before .before .before .before .before .before .before .args .reg .now) (c .before .before .before .before .before .before .before .before .args .starts .now) (c .before .before .before .before .before .before .before .before .args .entries .now)) (c .before .before .before .before .before .before .before .before .args .tile) (c .before .before .tile-mask .result) (c .before .before .before .before .before .before .before .before .args .q) (c .before .loop .class) (c .loop-test .left)))
-    (ap (λ (l : List ℕ). addAll s (runRows (c .before .before .before .before .before .before .before .before .args .g) (tables (c .before .before .before .before .before .before .before .before .args .reg .now) (c .before .before .before .before .before .before .before .before .args .starts .now) (c .before .before .before .before .before .before .before .before .args .entries .now)) (c .before .before .before .before .before .before .before .before .args .q) l)) e)
+    let a = c .before .before .before .before .before .before .before .before .args in
+    let tile-mask = c .before .before .tile-mask in
+    let loop = c .before .loop in
+    let lent = tables (a .reg .now) (a .starts .now) (a .entries .now) in
+    let e = runs-all (a .tile) (tile-mask .result) (a .g) (a .q) (tile-mask .ensures) in
+    let s = stands (a .front .now) (a .batch .now) (a .f) in
+    refilled (loop .front) (loop .batch) (loop .h) _ _
+    (bring-none (loop .inv .0) (rows-none (a .g) lent (a .tile) (tile-mask .result) (a .q) (loop .class) (c .loop-test .left)))
+    (ap (λ (l : List ℕ). addAll s (runRows (a .g) lent (a .q) l)) e)
 
 pub add-tile-spec : {M : Type 1} → statement M
 add-tile-spec =

@@ -18,28 +18,47 @@ loop-holds : tie.Need-loop-holds Inv-loop μ-loop
 loop-holds c = refl
 
 mul-bad-entry : tie.Need-mul-bad-entry Inv-loop μ-loop
-mul-bad-entry c = let p = c .before .before .before .before .pre in omega arith
+mul-bad-entry c =
+    let pre = c .before .before .before .before .pre in
+    let p = pre in omega arith
 
 shared-slice-read-bad-entry : tie.Need-shared-slice-read-bad-entry Inv-loop μ-loop
-shared-slice-read-bad-entry c = let p = c .before .before .before .before .before .pre in omega arith
+shared-slice-read-bad-entry c =
+    let pre = c .before .before .before .before .before .pre in
+    let p = pre in omega arith
 
 bad-entry-requires : tie.Need-bad-entry-requires Inv-loop μ-loop
 bad-entry-requires c κs = tt
 
 returns : tie.Need-returns Inv-loop μ-loop
-returns c = part-bad (c .before .before .before .before .before .before .before .args .g) (c .before .before .before .before .before .before .before .args .reg .now) (c .before .before .before .before .before .before .before .args .entries .now) (c .before .before .before .before .before .before .before .args .begin) (c .before .before .before .before .before .before .before .args .past) (c .before .before .before .before .loop .i) (c .before .before .before .loop-test .taken) (c .before .before .before .before .before .before .before .pre) (c .before .before .before .before .loop .inv) (sym (c .before .bad-entry .ensures) ∙ c .if1 .taken)
+returns c =
+    let a = c .before .before .before .before .before .before .before .args in
+    let loop = c .before .before .before .before .loop in
+    let pre = c .before .before .before .before .before .before .before .pre in
+    part-bad (a .g) (a .reg .now) (a .entries .now) (a .begin) (a .past) (loop .i) (c .before .before .before .loop-test .taken) pre (loop .inv) (sym (c .before .bad-entry .ensures) ∙ c .if1 .taken)
 
 add-i : tie.Need-add-i Inv-loop μ-loop
-add-i c = let p = c .before .before .before .before .before .before .before .pre in omega arith
+add-i c =
+    let pre = c .before .before .before .before .before .before .before .pre in
+    let p = pre in omega arith
 
 loop-less : tie.Need-loop-less Inv-loop μ-loop
-loop-less c = let p = c .before .before .before .before .before .before .before .pre in omega arith
+loop-less c =
+    let pre = c .before .before .before .before .before .before .before .pre in
+    let p = pre in omega arith
 
 loop-again : tie.Need-loop-again Inv-loop μ-loop
-loop-again c = part-on (c .before .before .before .before .before .before .before .args .g) (c .before .before .before .before .before .before .before .args .reg .now) (c .before .before .before .before .before .before .before .args .entries .now) (c .before .before .before .before .before .before .before .args .begin) (c .before .before .before .before .before .before .before .args .past) (c .before .before .before .before .loop .i) (c .before .before .before .loop-test .taken) (c .before .before .before .before .before .before .before .pre) (c .before .before .before .before .loop .inv) (sym (c .before .bad-entry .ensures) ∙ c .if1 .left)
+loop-again c =
+    let a = c .before .before .before .before .before .before .before .args in
+    let loop = c .before .before .before .before .loop in
+    let pre = c .before .before .before .before .before .before .before .pre in
+    part-on (a .g) (a .reg .now) (a .entries .now) (a .begin) (a .past) (loop .i) (c .before .before .before .loop-test .taken) pre (loop .inv) (sym (c .before .bad-entry .ensures) ∙ c .if1 .left)
 
 returns-2 : tie.Need-returns-2 Inv-loop μ-loop
-returns-2 c = part-end (c .before .before .before .before .args .g) (c .before .before .before .before .args .reg .now) (c .before .before .before .before .args .entries .now) (c .before .before .before .before .args .begin) (c .before .before .before .before .args .past) (c .before .loop .i) (c .before .loop .inv) (c .loop-test .left)
+returns-2 c =
+    let a = c .before .before .before .before .args in
+    let loop = c .before .loop in
+    part-end (a .g) (a .reg .now) (a .entries .now) (a .begin) (a .past) (loop .i) (loop .inv) (c .loop-test .left)
 
 pub bad-part-spec : {M : Type 1} → statement M
 bad-part-spec =

@@ -13,20 +13,28 @@ wide-requires : tie.Need-wide-requires
 wide-requires c κs = search needs
 
 footprint-requires : tie.Need-footprint-requires
-footprint-requires c κs = let e = c .wide .ensures in omega (arith, good-entry (c .before .before .args .g) (c .before .before .args .reg .now) (c .before .before .args .i) (c .before .before .pre .1) .0)
+footprint-requires c κs =
+    let a = c .before .before .args in
+    let e = c .wide .ensures in omega (arith, good-entry (a .g) (a .reg .now) (a .i) (c .before .before .pre .1) .0)
 
 square-requires : tie.Need-square-requires
 unfolding point
 square-requires c κs =
-    let e : c .footprint .result ≡ rectangle (c .before .before .before .args .g) (c .before .before .before .args .reg .now) (c .before .before .before .args .i) = c .footprint .ensures ∙ ap (rectangle (c .before .before .before .args .g) (c .before .before .before .args .reg .now)) (c .before .wide .ensures) in
-    (near-point (c .before .before .before .args .g) (c .before .before .before .args .q) (c .before .before .before .pre .0), rw e (near-footprint (c .before .before .before .args .g) (c .before .before .before .args .q) (c .before .before .before .pre .0) (c .before .before .before .args .reg .now) (c .before .before .before .args .i) (c .before .before .before .pre .1)))
+    let a = c .before .before .before .args in
+    let pre = c .before .before .before .pre in
+    let e : c .footprint .result ≡ rectangle (a .g) (a .reg .now) (a .i) = c .footprint .ensures ∙ ap (rectangle (a .g) (a .reg .now)) (c .before .wide .ensures) in
+    (near-point (a .g) (a .q) (pre .0), rw e (near-footprint (a .g) (a .q) (pre .0) (a .reg .now) (a .i) (pre .1)))
 
 encode-requires : tie.Need-encode-requires
 encode-requires c κs = search needs
 
 returns : tie.Need-returns
 unfolding point
-returns c = footprint-row (c .before .before .before .before .before .args .g) (c .before .before .before .before .before .args .reg .now) (c .before .before .before .before .before .args .q) (c .before .before .before .before .before .args .i) (c .before .before .footprint .result) (c .before .square .result) (c .encode .result) (c .before .before .footprint .ensures ∙ ap (rectangle (c .before .before .before .before .before .args .g) (c .before .before .before .before .before .args .reg .now)) (c .before .before .before .wide .ensures)) (c .before .square .ensures .0) (c .encode .ensures)
+returns c =
+    let a = c .before .before .before .before .before .args in
+    let footprint = c .before .before .footprint in
+    let square = c .before .square in
+    footprint-row (a .g) (a .reg .now) (a .q) (a .i) (footprint .result) (square .result) (c .encode .result) (footprint .ensures ∙ ap (rectangle (a .g) (a .reg .now)) (c .before .before .before .wide .ensures)) (square .ensures .0) (c .encode .ensures)
 
 pub footprint-row-spec : {M : Type 1} → statement M
 footprint-row-spec =

@@ -28,11 +28,19 @@ judge-run-requires c κs = search needs
 
 returns : tie.Need-returns
 returns c =
-    let k : 16 * c .before .before .wide .result + c .before .wide2 .result ≡ 16 * c .before .before .before .before .before .before .before .before .args .tile + c .before .before .before .before .before .before .before .before .args .class = omega (arith, c .before .before .wide .ensures, c .before .wide2 .ensures) in
-    judged-as (c .before .before .before .before .before .before .before .before .args .g) (tables (c .before .before .before .before .before .before .before .before .args .reg .now) (c .before .before .before .before .before .before .before .before .args .starts .now) (c .before .before .before .before .before .before .before .before .args .entries .now)) _ _ 1 (c .judge-run .result) (c .judge-run .ensures) (class-on (c .before .before .before .before .before .before .before .before .args .tile) (c .before .before .before .before .before .before .before .before .args .mask) (c .before .before .before .before .before .before .before .before .args .class) _ (sym (c .before .before .before .before .is-on .ensures) ∙ c .before .before .before .if1 .taken) k)
+    let a = c .before .before .before .before .before .before .before .before .args in
+    let wide = c .before .before .wide in
+    let wide2 = c .before .wide2 in
+    let is-on = c .before .before .before .before .is-on in
+    let lent = tables (a .reg .now) (a .starts .now) (a .entries .now) in
+    let k : 16 * wide .result + wide2 .result ≡ 16 * a .tile + a .class = omega (arith, wide .ensures, wide2 .ensures) in
+    judged-as (a .g) lent _ _ 1 (c .judge-run .result) (c .judge-run .ensures) (class-on (a .tile) (a .mask) (a .class) _ (sym (is-on .ensures) ∙ c .before .before .before .if1 .taken) k)
 
 returns-2 : tie.Need-returns-2
-returns-2 c = judged-as (c .before .before .before .before .before .args .g) (tables (c .before .before .before .before .before .args .reg .now) (c .before .before .before .before .before .args .starts .now) (c .before .before .before .before .before .args .entries .now)) _ _ 1 _ (judged-none (c .before .before .before .before .before .args .g) (tables (c .before .before .before .before .before .args .reg .now) (c .before .before .before .before .before .args .starts .now) (c .before .before .before .before .before .args .entries .now))) (class-off (c .before .before .before .before .before .args .tile) (c .before .before .before .before .before .args .mask) (c .before .before .before .before .before .args .class) (sym (c .before .is-on .ensures) ∙ c .if1 .left))
+returns-2 c =
+    let a = c .before .before .before .before .before .args in
+    let lent = tables (a .reg .now) (a .starts .now) (a .entries .now) in
+    judged-as (a .g) lent _ _ 1 _ (judged-none (a .g) lent) (class-off (a .tile) (a .mask) (a .class) (sym (c .before .is-on .ensures) ∙ c .if1 .left))
 
 pub judge-class-spec : {M : Type 1} → statement M
 judge-class-spec =

@@ -35,21 +35,43 @@ bad-ends-requires c κs = search needs
 
 returns : tie.Need-returns
 unfolding runStart runEnd
-returns c = run-ends-bad (c .before .before .before .before .before .before .before .before .before .args .g) (tables (c .before .before .before .before .before .before .before .before .before .args .reg .now) (c .before .before .before .before .before .before .before .before .before .args .starts .now) (c .before .before .before .before .before .before .before .before .before .args .entries .now)) (c .before .before .before .before .before .before .before .before .before .args .k) (c .before .before .before .before .wide .result) (c .before .before .wide2 .result) (c .before .before .before .before .wide .ensures) (c .before .before .wide2 .ensures) (sym (c .before .bad-ends .ensures) ∙ c .if1 .taken)
+returns c =
+    let a = c .before .before .before .before .before .before .before .before .before .args in
+    let wide = c .before .before .before .before .wide in
+    let wide2 = c .before .before .wide2 in
+    let lent = tables (a .reg .now) (a .starts .now) (a .entries .now) in
+    run-ends-bad (a .g) lent (a .k) (wide .result) (wide2 .result) (wide .ensures) (wide2 .ensures) (sym (c .before .bad-ends .ensures) ∙ c .if1 .taken)
 
 bad-part-requires : tie.Need-bad-part-requires
-bad-part-requires c κs = good-ends (length (c .before .before .before .before .before .before .before .before .before .args .entries .now)) (c .before .before .before .before .wide .result) (c .before .before .wide2 .result) (sym (c .before .bad-ends .ensures) ∙ c .if1 .left) .1
+bad-part-requires c κs =
+    let a = c .before .before .before .before .before .before .before .before .before .args in
+    let wide = c .before .before .before .before .wide in
+    good-ends (length (a .entries .now)) (wide .result) (c .before .before .wide2 .result) (sym (c .before .bad-ends .ensures) ∙ c .if1 .left) .1
 
 returns-2 : tie.Need-returns-2
 unfolding runStart runEnd
-returns-2 c = run-part-bad (c .before .before .before .before .before .before .before .before .before .before .before .args .g) (tables (c .before .before .before .before .before .before .before .before .before .before .before .args .reg .now) (c .before .before .before .before .before .before .before .before .before .before .before .args .starts .now) (c .before .before .before .before .before .before .before .before .before .before .before .args .entries .now)) (c .before .before .before .before .before .before .before .before .before .before .before .args .k) (c .before .before .before .before .before .before .wide .result) (c .before .before .before .before .wide2 .result) (c .before .before .before .before .before .before .wide .ensures) (c .before .before .before .before .wide2 .ensures) (sym (c .before .before .before .bad-ends .ensures) ∙ c .before .before .if1 .left) (sym (c .if2 .taken) ∙ c .before .bad-part .ensures)
+returns-2 c =
+    let a = c .before .before .before .before .before .before .before .before .before .before .before .args in
+    let wide = c .before .before .before .before .before .before .wide in
+    let wide2 = c .before .before .before .before .wide2 in
+    let lent = tables (a .reg .now) (a .starts .now) (a .entries .now) in
+    run-part-bad (a .g) lent (a .k) (wide .result) (wide2 .result) (wide .ensures) (wide2 .ensures) (sym (c .before .before .before .bad-ends .ensures) ∙ c .before .before .if1 .left) (sym (c .if2 .taken) ∙ c .before .bad-part .ensures)
 
 sub-t11 : tie.Need-sub-t11
-sub-t11 c = let p = good-ends (length (c .before .before .before .before .before .before .before .before .before .before .before .args .entries .now)) (c .before .before .before .before .before .before .wide .result) (c .before .before .before .before .wide2 .result) (sym (c .before .before .before .bad-ends .ensures) ∙ c .before .before .if1 .left) in omega arith
+sub-t11 c =
+    let a = c .before .before .before .before .before .before .before .before .before .before .before .args in
+    let wide = c .before .before .before .before .before .before .wide in
+    let wide2 = c .before .before .before .before .wide2 in
+    let p = good-ends (length (a .entries .now)) (wide .result) (wide2 .result) (sym (c .before .before .before .bad-ends .ensures) ∙ c .before .before .if1 .left) in omega arith
 
 returns-3 : tie.Need-returns-3
 unfolding runStart runEnd
-returns-3 c = run-fine (c .before .before .before .before .before .before .before .before .before .before .before .args .g) (tables (c .before .before .before .before .before .before .before .before .before .before .before .args .reg .now) (c .before .before .before .before .before .before .before .before .before .before .before .args .starts .now) (c .before .before .before .before .before .before .before .before .before .before .before .args .entries .now)) (c .before .before .before .before .before .before .before .before .before .before .before .args .k) (c .before .before .before .before .before .before .wide .result) (c .before .before .before .before .wide2 .result) (c .before .before .before .before .before .before .wide .ensures) (c .before .before .before .before .wide2 .ensures) (sym (c .before .before .before .bad-ends .ensures) ∙ c .before .before .if1 .left) (sym (c .if2 .left) ∙ c .before .bad-part .ensures)
+returns-3 c =
+    let a = c .before .before .before .before .before .before .before .before .before .before .before .args in
+    let wide = c .before .before .before .before .before .before .wide in
+    let wide2 = c .before .before .before .before .wide2 in
+    let lent = tables (a .reg .now) (a .starts .now) (a .entries .now) in
+    run-fine (a .g) lent (a .k) (wide .result) (wide2 .result) (wide .ensures) (wide2 .ensures) (sym (c .before .before .before .bad-ends .ensures) ∙ c .before .before .if1 .left) (sym (c .if2 .left) ∙ c .before .bad-part .ensures)
 
 pub judge-run-spec : {M : Type 1} → statement M
 judge-run-spec =

@@ -15,22 +15,38 @@ abbrev μ-loop : tie.MeasureT-loop
 μ-loop g reg starts entries tile mask count₀ class₀ count class = 16 - class
 
 tile-mask-requires : tie.Need-tile-mask-requires Inv-loop μ-loop
-tile-mask-requires c κs = sized (c .before .before .before .args .g) (c .before .before .before .args .q) (c .before .before .before .pre .0 .placed) .n-pos
+tile-mask-requires c κs =
+    let a = c .before .before .before .args in
+    sized (a .g) (a .q) (c .before .before .before .pre .0 .placed) .n-pos
 
 loop-holds : tie.Need-loop-holds Inv-loop μ-loop
-loop-holds c = count-all (c .before .before .before .before .args .g) (tables (c .before .before .before .before .args .reg .now) (c .before .before .before .before .args .starts .now) (c .before .before .before .before .args .entries .now)) (c .before .before .before .before .args .tile) (c .tile-mask .result)
+loop-holds c =
+    let a = c .before .before .before .before .args in
+    let lent = tables (a .reg .now) (a .starts .now) (a .entries .now) in
+    count-all (a .g) lent (a .tile) (c .tile-mask .result)
 
 judge-class-requires : tie.Need-judge-class-requires Inv-loop μ-loop
-judge-class-requires c κs = starts-stand (c .before .before .before .before .before .before .args .g) (tables (c .before .before .before .before .before .before .args .reg .now) (c .before .before .before .before .before .before .args .starts .now) (c .before .before .before .before .before .before .args .entries .now)) (c .before .before .before .before .before .before .pre .0 .lengths) (c .before .before .before .before .before .before .args .tile) (c .before .loop .class) (c .before .before .before .before .before .before .pre .1) (c .loop-test .taken)
+judge-class-requires c κs =
+    let a = c .before .before .before .before .before .before .args in
+    let pre = c .before .before .before .before .before .before .pre in
+    let lent = tables (a .reg .now) (a .starts .now) (a .entries .now) in
+    starts-stand (a .g) lent (pre .0 .lengths) (a .tile) (c .before .loop .class) (pre .1) (c .loop-test .taken)
 
 returns : tie.Need-returns Inv-loop μ-loop
 returns c =
-    judged-as (c .before .before .before .before .before .before .before .before .args .g) (tables (c .before .before .before .before .before .before .before .before .args .reg .now) (c .before .before .before .before .before .before .before .before .args .starts .now) (c .before .before .before .before .before .before .before .before .args .entries .now)) _ _ 16 (c .before .judge-class .result)
-    (count-bad (c .before .before .before .before .before .before .before .before .args .g) (tables (c .before .before .before .before .before .before .before .before .args .reg .now) (c .before .before .before .before .before .before .before .before .args .starts .now) (c .before .before .before .before .before .before .before .before .args .entries .now)) (c .before .before .before .before .before .before .before .before .args .tile) (c .before .before .before .before .tile-mask .result) (c .before .before .before .loop .count) (c .before .before .before .loop .class) (c .before .before .loop-test .taken) (c .before .before .before .loop .inv) (c .before .judge-class .result) (c .before .judge-class .ensures) (c .if1 .taken))
-    (runs-all (c .before .before .before .before .before .before .before .before .args .tile) (c .before .before .before .before .tile-mask .result) (c .before .before .before .before .before .before .before .before .args .g) (c .before .before .before .before .before .before .before .before .args .q) (c .before .before .before .before .tile-mask .ensures))
+    let a = c .before .before .before .before .before .before .before .before .args in
+    let judge-class = c .before .judge-class in
+    let tile-mask = c .before .before .before .before .tile-mask in
+    let loop = c .before .before .before .loop in
+    let lent = tables (a .reg .now) (a .starts .now) (a .entries .now) in
+    judged-as (a .g) lent _ _ 16 (judge-class .result)
+    (count-bad (a .g) lent (a .tile) (tile-mask .result) (loop .count) (loop .class) (c .before .before .loop-test .taken) (loop .inv) (judge-class .result) (judge-class .ensures) (c .if1 .taken))
+    (runs-all (a .tile) (tile-mask .result) (a .g) (a .q) (tile-mask .ensures))
 
 add-count : tie.Need-add-count Inv-loop μ-loop
-add-count c = let t = c .before .before .before .loop-test .taken in let f = c .before .before .judge-class .ensures .few in let i = c .before .before .before .before .loop .inv .few in omega arith
+add-count c =
+    let loop = c .before .before .before .before .loop in
+    let t = c .before .before .before .loop-test .taken in let f = c .before .before .judge-class .ensures .few in let i = loop .inv .few in omega arith
 
 add-class : tie.Need-add-class Inv-loop μ-loop
 add-class c = let t = c .before .before .before .loop-test .taken in omega arith
@@ -39,13 +55,23 @@ loop-less : tie.Need-loop-less Inv-loop μ-loop
 loop-less c = let t = c .before .before .before .loop-test .taken in omega arith
 
 loop-again : tie.Need-loop-again Inv-loop μ-loop
-loop-again c = count-on (c .before .before .before .before .before .before .before .before .before .args .g) (tables (c .before .before .before .before .before .before .before .before .before .args .reg .now) (c .before .before .before .before .before .before .before .before .before .args .starts .now) (c .before .before .before .before .before .before .before .before .before .args .entries .now)) (c .before .before .before .before .before .before .before .before .before .args .tile) (c .before .before .before .before .before .tile-mask .result) (c .before .before .before .before .loop .count) (c .before .before .before .before .loop .class) (c .before .before .before .loop-test .taken) (c .before .before .before .before .loop .inv) (c .before .before .judge-class .result) (c .before .before .judge-class .ensures) (c .before .if1 .left)
+loop-again c =
+    let a = c .before .before .before .before .before .before .before .before .before .args in
+    let tile-mask = c .before .before .before .before .before .tile-mask in
+    let loop = c .before .before .before .before .loop in
+    let judge-class = c .before .before .judge-class in
+    let lent = tables (a .reg .now) (a .starts .now) (a .entries .now) in
+    count-on (a .g) lent (a .tile) (tile-mask .result) (loop .count) (loop .class) (c .before .before .before .loop-test .taken) (loop .inv) (judge-class .result) (judge-class .ensures) (c .before .if1 .left)
 
 returns-2 : tie.Need-returns-2 Inv-loop μ-loop
 returns-2 c =
-    judged-as (c .before .before .before .before .before .before .args .g) (tables (c .before .before .before .before .before .before .args .reg .now) (c .before .before .before .before .before .before .args .starts .now) (c .before .before .before .before .before .before .args .entries .now)) _ _ 16 _
-    (count-end (c .before .before .before .before .before .before .args .g) (tables (c .before .before .before .before .before .before .args .reg .now) (c .before .before .before .before .before .before .args .starts .now) (c .before .before .before .before .before .before .args .entries .now)) (c .before .before .before .before .before .before .args .tile) (c .before .before .tile-mask .result) (c .before .loop .count) (c .before .loop .class) (c .before .loop .inv) (c .loop-test .left))
-    (runs-all (c .before .before .before .before .before .before .args .tile) (c .before .before .tile-mask .result) (c .before .before .before .before .before .before .args .g) (c .before .before .before .before .before .before .args .q) (c .before .before .tile-mask .ensures))
+    let a = c .before .before .before .before .before .before .args in
+    let tile-mask = c .before .before .tile-mask in
+    let loop = c .before .loop in
+    let lent = tables (a .reg .now) (a .starts .now) (a .entries .now) in
+    judged-as (a .g) lent _ _ 16 _
+    (count-end (a .g) lent (a .tile) (tile-mask .result) (loop .count) (loop .class) (loop .inv) (c .loop-test .left))
+    (runs-all (a .tile) (tile-mask .result) (a .g) (a .q) (tile-mask .ensures))
 
 pub judge-tile-spec : {M : Type 1} → statement M
 judge-tile-spec =

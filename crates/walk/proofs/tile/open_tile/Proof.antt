@@ -26,20 +26,32 @@ spoil-requires c κs = search needs
 
 returns : tie.Need-returns
 returns c =
-    let h : tileCount (c .before .before .before .before .before .before .before .before .before .args .g) ≤ c .before .before .before .before .before .before .before .before .before .args .tile = omega (arith, c .before .if1 .taken, c .before .before .before .tile-count .ensures, c .before .before .wide .ensures) in
-    rw (c .spoil .ensures) (spoilt (c .before .before .before .before .before .before .before .before .before .args .front .now) (c .before .before .before .before .before .before .before .before .before .args .batch .now) (c .before .before .before .before .before .before .before .before .before .args .f) _ (c .before .before .before .before .before .before .before .before .before .pre .0) (tile-lost (c .before .before .before .before .before .before .before .before .before .args .g) (tables (c .before .before .before .before .before .before .before .before .before .args .reg .now) (c .before .before .before .before .before .before .before .before .before .args .starts .now) (c .before .before .before .before .before .before .before .before .before .args .entries .now)) (c .before .before .before .before .before .before .before .before .before .args .q) (c .before .before .before .before .before .before .before .before .before .args .tile) _ _ h))
+    let a = c .before .before .before .before .before .before .before .before .before .args in
+    let pre = c .before .before .before .before .before .before .before .before .before .pre in
+    let lent = tables (a .reg .now) (a .starts .now) (a .entries .now) in
+    let h : tileCount (a .g) ≤ a .tile = omega (arith, c .before .if1 .taken, c .before .before .before .tile-count .ensures, c .before .before .wide .ensures) in
+    rw (c .spoil .ensures) (spoilt (a .front .now) (a .batch .now) (a .f) _ (pre .0) (tile-lost (a .g) lent (a .q) (a .tile) _ _ h))
 
 judge-tile-requires : tie.Need-judge-tile-requires
-judge-tile-requires c κs = (c .before .before .before .before .before .before .before .before .pre .1, there (c))
+judge-tile-requires c κs =
+    let pre = c .before .before .before .before .before .before .before .before .pre in
+    (pre .1, there c)
 
 spoil-requires-2 : tie.Need-spoil-requires-2
 spoil-requires-2 c κs = search needs
 
 returns-2 : tie.Need-returns-2
-returns-2 c = rw (c .spoil2 .ensures) (spoilt (c .before .before .before .before .before .before .before .before .before .before .before .args .front .now) (c .before .before .before .before .before .before .before .before .before .before .before .args .batch .now) (c .before .before .before .before .before .before .before .before .before .before .before .args .f) _ (c .before .before .before .before .before .before .before .before .before .before .before .pre .0) (tile-bad (c .before .before .before .before .before .before .before .before .before .before .before .args .g) (tables (c .before .before .before .before .before .before .before .before .before .before .before .args .reg .now) (c .before .before .before .before .before .before .before .before .before .before .before .args .starts .now) (c .before .before .before .before .before .before .before .before .before .before .before .args .entries .now)) (c .before .before .before .before .before .before .before .before .before .before .before .args .q) (c .before .before .before .before .before .before .before .before .before .before .before .args .tile) _ _ (there (c .before .before .before)) (sym (c .before .if2 .taken) ∙ c .before .before .judge-tile .ensures .said)))
+returns-2 c =
+    let a = c .before .before .before .before .before .before .before .before .before .before .before .args in
+    let pre = c .before .before .before .before .before .before .before .before .before .before .before .pre in
+    let lent = tables (a .reg .now) (a .starts .now) (a .entries .now) in
+    rw (c .spoil2 .ensures) (spoilt (a .front .now) (a .batch .now) (a .f) _ (pre .0) (tile-bad (a .g) lent (a .q) (a .tile) _ _ (there (c .before .before .before)) (sym (c .before .if2 .taken) ∙ c .before .before .judge-tile .ensures .said)))
 
 add-tile-requires : tie.Need-add-tile-requires
-add-tile-requires c κs = (c .before .before .before .before .before .before .before .before .before .before .before .before .pre .0, (c .before .before .before .before .before .before .before .before .before .before .before .before .pre .1, (there (c .before .before .before .before), not-false _ (sym (c .before .before .before .judge-tile .ensures .said) ∙ c .before .before .if2 .left))))
+add-tile-requires c κs =
+    let pre = c .before .before .before .before .before .before .before .before .before .before .before .before .pre in
+    let else1 = c .before .before .before .before in
+    (pre .0, (pre .1, (there else1, not-false _ (sym (c .before .before .before .judge-tile .ensures .said) ∙ c .before .before .if2 .left))))
 
 same-length : tie.Need-same-length
 same-length c = search needs
@@ -49,8 +61,14 @@ same-length-2 c = search needs
 
 returns-3 : tie.Need-returns-3
 returns-3 c =
-    refilled (c .before .before .before .before .add-tile .last .1 .1 .1 .1 .1 .0) (c .before .before .before .before .add-tile .last .1 .1 .1 .1 .1 .1 .0) (c .before .before .before .before .add-tile .result) _ _ (c .before .before .before .before .add-tile .ensures)
-    (tile-fine (c .before .before .before .before .before .before .before .before .before .before .before .before .before .before .before .before .before .args .g) (tables (c .before .before .before .before .before .before .before .before .before .before .before .before .before .before .before .before .before .args .reg .now) (c .before .before .before .before .before .before .before .before .before .before .before .before .before .before .before .before .before .args .starts .now) (c .before .before .before .before .before .before .before .before .before .before .before .before .before .before .before .before .before .args .entries .now)) (c .before .before .before .before .before .before .before .before .before .before .before .before .before .before .before .before .before .args .q) (c .before .before .before .before .before .before .before .before .before .before .before .before .before .before .before .before .before .args .tile) _ (there (c .before .before .before .before .before .before .before .before .before)) (sym (c .before .before .before .before .before .before .before .if2 .left) ∙ c .before .before .before .before .before .before .before .before .judge-tile .ensures .said))
+    let a = c .before .before .before .before .before .before .before .before .before .before .before .before .before .before .before .before .before .args in
+    let add-tile = c .before .before .before .before .add-tile in
+    let else1 = c .before .before .before .before .before .before .before .before .before in
+    let if2 = c .before .before .before .before .before .before .before .if2 in
+    let judge-tile = c .before .before .before .before .before .before .before .before .judge-tile in
+    let lent = tables (a .reg .now) (a .starts .now) (a .entries .now) in
+    refilled (add-tile .last .1 .1 .1 .1 .1 .0) (add-tile .last .1 .1 .1 .1 .1 .1 .0) (add-tile .result) _ _ (add-tile .ensures)
+    (tile-fine (a .g) lent (a .q) (a .tile) _ (there else1) (sym (if2 .left) ∙ judge-tile .ensures .said))
 
 pub open-tile-spec : {M : Type 1} → statement M
 open-tile-spec =

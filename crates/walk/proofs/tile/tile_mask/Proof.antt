@@ -25,7 +25,9 @@ allowed-mask-requires c κs = search needs
 
 returns : tie.Need-returns
 unfolding allowedIn rowOf columnOf
-returns c = λ class h. c .allowed-mask .ensures class h ∙ ap₂ (λ (x y : ℕ). allowed (place (c .before .before .before .before .before .args .tile % c .before .before .before .before .before .args .g .n) x) (place (c .before .before .before .before .before .args .tile / c .before .before .before .before .before .args .g .n) y) class) (c .before .column2 .ensures) (c .before .before .column .ensures)
+returns c =
+    let a = c .before .before .before .before .before .args in
+    λ class h. c .allowed-mask .ensures class h ∙ ap₂ (λ (x y : ℕ). allowed (place (a .tile % a .g .n) x) (place (a .tile / a .g .n) y) class) (c .before .column2 .ensures) (c .before .before .column .ensures)
 
 pub tile-mask-spec : {M : Type 1} → statement M
 tile-mask-spec =
