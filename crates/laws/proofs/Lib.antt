@@ -16,6 +16,8 @@ pub mod Filters
 pub mod Computed
 pub mod Remaining
 pub mod Passing
+pub mod Parts
+pub mod Stores
 pub mod Lexicographic
 pub mod Choices
 pub mod Totals
@@ -25,7 +27,6 @@ pub mod Pairs
 pub mod Rows
 pub mod Lengths
 pub mod Boxes
-pub mod Parts
 pub mod Rising
 pub mod Forced
 pub mod Scans
