@@ -1,0 +1,11 @@
+//! The model's own checks, run by `cargo test`.
+
+mod bytes;
+mod format;
+mod refusals;
+mod rules;
+mod starred;
+mod stored;
+mod texts;
+mod walks;
+mod yards;

@@ -1,0 +1,60 @@
+//! Every fault alone brings its refusal, and of two the one that is judged first.
+
+use crate::call::Call;
+use crate::faults;
+use crate::format::call_numbers;
+use crate::stored::accepted_calls;
+
+/// The order in which refusals are judged.
+fn order(code: u64) -> &'static [u64] {
+    match code {
+        6 => &[1, 2, 4, 6, 7],
+        _ => &[1, 2, 3, 4, 5, 7, 6],
+    }
+}
+
+fn rank(code: u64, refusal: u64) -> usize {
+    let place = order(code).iter().position(|&one| one == refusal);
+    place.expect("the refusal is in the order")
+}
+
+fn refusal_of(call: &Call) -> u64 {
+    call.answer().numbers[0]
+}
+
+#[test]
+fn the_calls_without_faults_are_accepted() {
+    for call in accepted_calls() {
+        assert_eq!(refusal_of(&call), 0, "code {}", call.code());
+    }
+}
+
+#[test]
+fn a_fault_alone_brings_its_refusal() {
+    for accepted in accepted_calls() {
+        for (place, fault) in faults::of_code(accepted.code()).iter().enumerate() {
+            let call = fault.put(&accepted);
+            let told = format!("code {}, fault {place}", call.code());
+            assert_eq!(refusal_of(&call), fault.refusal, "{told}");
+        }
+    }
+}
+
+#[test]
+fn of_two_faults_the_first_judged_is_told() {
+    for accepted in accepted_calls() {
+        let code = accepted.code();
+        let faults = faults::of_code(code);
+        for one in &faults {
+            let apart = |other: &&faults::Fault| other.refusal != one.refusal;
+            for other in faults.iter().filter(apart) {
+                let (low, high) = match rank(code, one.refusal) < rank(code, other.refusal) {
+                    true => (one, other),
+                    false => (other, one),
+                };
+                let call = low.put(&high.put(&accepted));
+                assert_eq!(refusal_of(&call), low.refusal, "{:?}", call_numbers(&call));
+            }
+        }
+    }
+}

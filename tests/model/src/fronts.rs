@@ -1,0 +1,217 @@
+//! Random asks: fronts as walks leave them, then shuffled, shortened, changed in one number or wholly random, with states to match or not.
+
+use crate::call::{Asked, Lent};
+use crate::groups::Group;
+use crate::random::Random;
+use crate::register::footprint_count;
+use crate::sizes::{Grid, NUMBERS_A_ROW, NUMBERS_GIVEN};
+use crate::tables::Tables;
+use crate::walk::{self, start_need, Row, Walk, FOOTPRINT, GROUP, TILE};
+use crate::yards::Limits;
+
+/// A front and the state that goes with it.
+struct Waiting {
+    front: Vec<u64>,
+    walk: Walk,
+}
+
+/// Starts a walk and asks a few times; none where that is refused.
+fn walked(
+    random: &mut Random,
+    tables: &Tables,
+    at: (u32, u32),
+    limits: &Limits,
+) -> Option<Waiting> {
+    let need = start_need(tables) as usize;
+    if need > limits.table_most {
+        return None;
+    }
+    let longer = random
+        .pick(&[0, 0, 0, 1, 2, 3, 5])
+        .min(limits.table_most - need);
+    let mut front = random.wild_long_table(need + longer);
+    let (started, mut walk) = walk::start(tables, at.0, at.1, &mut front);
+    started.ok()?;
+    for _ in 0..random.below(3) {
+        let j = random.small(footprint_count(tables.reg) as u32 + 1);
+        let mut out = vec![0; NUMBERS_GIVEN * j as usize];
+        let (asked, after) = walk::ask(tables, &mut front, walk, j, &mut out);
+        asked.ok()?;
+        walk = after;
+    }
+    Some(Waiting { front, walk })
+}
+
+/// A row that may exist or not.
+fn any_row(random: &mut Random, tables: &Tables) -> Row {
+    let kind = match random.below(20) {
+        0 => 3,
+        1 => random.wild_long(),
+        _ => random.pick(&[GROUP, TILE, FOOTPRINT]),
+    };
+    let square = match random.below(3) {
+        0 => random.below(4),
+        1 => random.below(20_000),
+        _ => random.wild_long(),
+    };
+    Row {
+        square,
+        kind,
+        number: any_number(random, tables, kind),
+    }
+}
+
+/// A number for a row of this kind: in most cases of something that exists.
+fn any_number(random: &mut Random, tables: &Tables, kind: u64) -> u64 {
+    let tiles = u64::from(tables.g.tile_count());
+    let count = footprint_count(tables.reg) as u64;
+    let near = match kind {
+        GROUP => Group {
+            direction: random.below(4),
+            level: 1 + random.below(u64::from(tables.g.n)),
+        }
+        .number(),
+        TILE => random.below(tiles),
+        _ if count > 0 => random.below(count),
+        _ => 0,
+    };
+    match random.below(24) {
+        0 => random.below(4) * 64,
+        1 => 256 + random.below(3),
+        2 => random.wild_long(),
+        3 => tiles,
+        4 => count,
+        5 => near + (1 << 32),
+        _ => near,
+    }
+}
+
+fn rows_to_numbers(rows: &[Row]) -> Vec<u64> {
+    let numbers = rows
+        .iter()
+        .flat_map(|row| [row.square, row.kind, row.number]);
+    numbers.collect()
+}
+
+/// A front of rows that no walk left there.
+fn made_up(random: &mut Random, tables: &Tables, at: (u32, u32)) -> Waiting {
+    let count = random.place(6);
+    let mut rows: Vec<Row> = (0..count).map(|_| any_row(random, tables)).collect();
+    if random.chance(50) {
+        rows.sort();
+    }
+    let mut front = rows_to_numbers(&rows);
+    let room = random.place(80);
+    front.extend(random.wild_long_table(room));
+    let walk = Walk {
+        x: at.0,
+        y: at.1,
+        waiting: count as u64,
+        damaged: false,
+    };
+    Waiting { front, walk }
+}
+
+/// Rows of a front in another order.
+fn shuffle_rows(random: &mut Random, waiting: &mut Waiting) {
+    let rows = (waiting.walk.waiting as usize).min(waiting.front.len() / NUMBERS_A_ROW);
+    for end in (1..rows).rev() {
+        let other = random.place(end + 1);
+        for number in 0..NUMBERS_A_ROW {
+            let (one, two) = (NUMBERS_A_ROW * end, NUMBERS_A_ROW * other);
+            waiting.front.swap(one + number, two + number);
+        }
+    }
+}
+
+/// Puts any row in the place of a waiting one.
+fn change_row(random: &mut Random, waiting: &mut Waiting, tables: &Tables) {
+    let rows = (waiting.walk.waiting as usize).min(waiting.front.len() / NUMBERS_A_ROW);
+    if rows == 0 {
+        return;
+    }
+    let any = random.place(rows);
+    let first = NUMBERS_A_ROW * random.pick(&[0, any, rows - 1]);
+    let new = rows_to_numbers(&[any_row(random, tables)]);
+    if random.chance(50) {
+        waiting.front[first..first + NUMBERS_A_ROW].copy_from_slice(&new);
+    } else {
+        let number = random.place(NUMBERS_A_ROW);
+        waiting.front[first + number] = new[number];
+    }
+}
+
+/// Leaves little room, or none, for new rows.
+fn shorten(random: &mut Random, waiting: &mut Waiting) {
+    let rows = waiting.walk.waiting as usize;
+    let length = NUMBERS_A_ROW * rows + random.place(12);
+    waiting.front.truncate(length);
+}
+
+/// Changes the front or the state in one way.
+fn spoil(random: &mut Random, waiting: &mut Waiting, tables: &Tables) {
+    match random.below(10) {
+        0 | 1 => shuffle_rows(random, waiting),
+        2..5 => change_row(random, waiting, tables),
+        5 | 6 => shorten(random, waiting),
+        7 => waiting.walk.waiting = (waiting.front.len() / NUMBERS_A_ROW) as u64 + random.below(2),
+        8 => waiting.walk.waiting = random.wild_long(),
+        _ => waiting.walk.damaged = true,
+    }
+}
+
+/// How many rows are asked for: none, a few, exactly all, more than all, or more than there can be room for.
+fn asked_rows(random: &mut Random, tables: &Tables) -> u32 {
+    let count = footprint_count(tables.reg) as u32;
+    match random.below(16) {
+        0 | 1 => 0,
+        2..5 => 1,
+        5 | 6 => count,
+        7 | 8 => count + 1,
+        9 => count + random.small(5),
+        10 if random.chance(20) => random.wild(),
+        _ => random.small(count + 2),
+    }
+}
+
+/// The output of an ask: in most cases enough, else one short or less.
+fn output(random: &mut Random, j: u32, limits: &Limits) -> Vec<u64> {
+    let need = (NUMBERS_GIVEN as u64 * u64::from(j)).min(limits.table_most as u64) as usize;
+    let length = match random.below(20) {
+        0 => need.saturating_sub(1),
+        1 => need / 2,
+        2..7 => need + 1 + random.place(4),
+        _ => need,
+    };
+    random.wild_long_table(length.min(limits.table_most))
+}
+
+/// A random ask over these tables from this point.
+pub fn ask(random: &mut Random, g: Grid, lent: Lent, at: (u32, u32), limits: &Limits) -> Asked {
+    let tables = lent.tables(g);
+    let walked = walked(random, &tables, at, limits);
+    let made = random.chance(10);
+    let mut waiting = match walked {
+        Some(waiting) if !made => waiting,
+        _ => made_up(random, &tables, at),
+    };
+    if random.chance(45) {
+        spoil(random, &mut waiting, &tables);
+    }
+    let j = asked_rows(random, &tables);
+    let out = output(random, j, limits);
+    let mark = match waiting.walk.damaged {
+        true => random.pick(&[1, 1, 1, 2, u32::MAX]),
+        false => 0,
+    };
+    Asked::Ask {
+        front: waiting.front,
+        x: waiting.walk.x,
+        y: waiting.walk.y,
+        waiting: waiting.walk.waiting,
+        mark,
+        j,
+        out,
+        lent,
+    }
+}
