@@ -7,7 +7,7 @@ use crate::register::footprint_count;
 use crate::sizes::{Grid, NUMBERS_A_ROW, NUMBERS_GIVEN};
 use crate::tables::Tables;
 use crate::walk::{self, start_need, Row, Walk, FOOTPRINT, GROUP, TILE};
-use crate::yards::Limits;
+use crate::yards::{self, Limits};
 
 /// A front and the state that goes with it.
 struct Waiting {
@@ -47,6 +47,7 @@ fn any_row(random: &mut Random, tables: &Tables) -> Row {
     let kind = match random.below(20) {
         0 => 3,
         1 => random.wild_long(),
+        2 => (1 << 32) + random.below(3),
         _ => random.pick(&[GROUP, TILE, FOOTPRINT]),
     };
     let square = match random.below(3) {
@@ -155,8 +156,18 @@ fn spoil(random: &mut Random, waiting: &mut Waiting, tables: &Tables) {
         2..5 => change_row(random, waiting, tables),
         5 | 6 => shorten(random, waiting),
         7 => waiting.walk.waiting = (waiting.front.len() / NUMBERS_A_ROW) as u64 + random.below(2),
-        8 => waiting.walk.waiting = random.wild_long(),
+        8 => waiting.walk.waiting = other_count(random, waiting.walk.waiting),
         _ => waiting.walk.damaged = true,
+    }
+}
+
+/// A count of waiting rows that is not the front's: less, or so large that three times it runs over.
+fn other_count(random: &mut Random, count: u64) -> u64 {
+    let third = u64::MAX / NUMBERS_A_ROW as u64;
+    match random.below(4) {
+        0 | 1 => random.below(count.saturating_add(1)),
+        2 => third + random.below(3),
+        _ => random.wild_long(),
     }
 }
 
@@ -169,14 +180,19 @@ fn asked_rows(random: &mut Random, tables: &Tables) -> u32 {
         5 | 6 => count,
         7 | 8 => count + 1,
         9 => count + random.small(5),
-        10 if random.chance(20) => random.wild(),
+        10 if random.chance(30) => random.wild(),
+        11 if random.chance(20) => (1 << 31) + random.small(3),
         _ => random.small(count + 2),
     }
 }
 
 /// The output of an ask: in most cases enough, else one short or less.
 fn output(random: &mut Random, j: u32, limits: &Limits) -> Vec<u64> {
-    let need = (NUMBERS_GIVEN as u64 * u64::from(j)).min(limits.table_most as u64) as usize;
+    let need = NUMBERS_GIVEN * j as usize;
+    if need > limits.table_most {
+        let length = random.place(20);
+        return random.wild_long_table(length);
+    }
     let length = match random.below(20) {
         0 => need.saturating_sub(1),
         1 => need / 2,
@@ -186,32 +202,43 @@ fn output(random: &mut Random, j: u32, limits: &Limits) -> Vec<u64> {
     random.wild_long_table(length.min(limits.table_most))
 }
 
-/// A random ask over these tables from this point.
-pub fn ask(random: &mut Random, g: Grid, lent: Lent, at: (u32, u32), limits: &Limits) -> Asked {
-    let tables = lent.tables(g);
-    let walked = walked(random, &tables, at, limits);
+/// The front and state of a walk over these tables, or made up, and spoiled in some cases.
+fn any_waiting(random: &mut Random, tables: &Tables, at: (u32, u32), limits: &Limits) -> Waiting {
+    let walked = walked(random, tables, at, limits);
     let made = random.chance(10);
     let mut waiting = match walked {
         Some(waiting) if !made => waiting,
-        _ => made_up(random, &tables, at),
+        _ => made_up(random, tables, at),
     };
     if random.chance(45) {
-        spoil(random, &mut waiting, &tables);
+        spoil(random, &mut waiting, tables);
     }
-    let j = asked_rows(random, &tables);
-    let out = output(random, j, limits);
-    let mark = match waiting.walk.damaged {
+    waiting
+}
+
+fn mark(random: &mut Random, damaged: bool) -> u32 {
+    match damaged {
         true => random.pick(&[1, 1, 1, 2, u32::MAX]),
         false => 0,
+    }
+}
+
+/// A random ask over these tables from this point; in some cases the tables change after the walk began.
+pub fn ask(random: &mut Random, g: Grid, lent: Lent, at: (u32, u32), limits: &Limits) -> Asked {
+    let waiting = any_waiting(random, &lent.tables(g), at, limits);
+    let j = asked_rows(random, &lent.tables(g));
+    let lent = match random.chance(20) {
+        true => yards::disturb(random, g, lent, limits),
+        false => lent,
     };
     Asked::Ask {
         front: waiting.front,
         x: waiting.walk.x,
         y: waiting.walk.y,
         waiting: waiting.walk.waiting,
-        mark,
+        mark: mark(random, waiting.walk.damaged),
         j,
-        out,
+        out: output(random, j, limits),
         lent,
     }
 }

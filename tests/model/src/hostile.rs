@@ -24,9 +24,9 @@ pub fn random_call(random: &mut Random, limits: &Limits, codes: &[u64]) -> Call 
         2 => check(random, g, limits),
         3 => run(random, g, limits),
         4 => search_call(random, g, limits),
-        5 => start(random, g, &limits.paired()),
-        6 => ask(random, g, &limits.paired()),
-        7 => join_call(random, g, &limits.paired()),
+        5 => start(random, g, &limits.for_walks()),
+        6 => ask(random, g, &limits.for_walks()),
+        7 => join_call(random, g, limits),
         23 => long_run(random, g),
         code => as_bytes(random, g, limits, code),
     };
@@ -93,7 +93,8 @@ fn tile_and_class(random: &mut Random, g: Grid) -> (u32, u32) {
     let tile = match random.below(20) {
         0 => tiles,
         1 => random.wild(),
-        2 => tiles - 1,
+        2 => random.pick(&[1 << 28, (1 << 28) + 1, u32::MAX]),
+        3 => tiles - 1,
         _ => random.small(tiles),
     };
     let class = match random.below(20) {
@@ -104,9 +105,25 @@ fn tile_and_class(random: &mut Random, g: Grid) -> (u32, u32) {
     (tile, class)
 }
 
+/// The tile and class of a run that has entries, if there is one.
+fn filled_run(random: &mut Random, starts: &[u32]) -> Option<(u32, u32)> {
+    let filled: Vec<usize> = (1..starts.len())
+        .filter(|&next| starts[next - 1] < starts[next])
+        .collect();
+    if filled.is_empty() {
+        return None;
+    }
+    let run = random.pick(&filled) as u32 - 1;
+    Some((run / CLASSES, run % CLASSES))
+}
+
 fn run(random: &mut Random, g: Grid, limits: &Limits) -> Asked {
-    let lent = yards::any_tables(random, g, limits);
-    let (tile, class) = tile_and_class(random, g);
+    let lent = any_or_fair(random, g, limits);
+    let any = tile_and_class(random, g);
+    let (tile, class) = match random.chance(50) {
+        true => filled_run(random, &lent.starts).unwrap_or(any),
+        false => any,
+    };
     Asked::Run {
         starts: lent.starts,
         entries: lent.entries,
@@ -161,8 +178,8 @@ fn start(random: &mut Random, g: Grid, limits: &Limits) -> Asked {
 
 fn ask(random: &mut Random, g: Grid, limits: &Limits) -> Asked {
     let lent = any_or_fair(random, g, limits);
-    let (x, y) = yards::point(random, g, &lent.reg);
-    fronts::ask(random, g, lent, (x, y), limits)
+    let at = yards::point(random, g, &lent.reg);
+    fronts::ask(random, g, lent, at, limits)
 }
 
 /// A join's radius: up to the side, and just over it.
@@ -177,11 +194,16 @@ fn join_radius(random: &mut Random, g: Grid) -> u32 {
 }
 
 fn join_call(random: &mut Random, g: Grid, limits: &Limits) -> Asked {
-    let r_lent = any_or_fair(random, g, limits);
+    let (many, few) = match random.below(10) {
+        0 => (limits.for_walks(), limits.for_few()),
+        1 => (limits.for_few(), limits.for_walks()),
+        _ => (limits.for_joins(), limits.for_joins()),
+    };
+    let r_lent = any_or_fair(random, g, &many);
     let s_lent = match random.below(6) {
-        0 => r_lent.clone(),
-        1 => yards::any_tables(random, g, limits),
-        _ => yards::fair_tables(random, g, limits),
+        0 if r_lent.reg.len() < 1_000 => r_lent.clone(),
+        1 => yards::any_tables(random, g, &few),
+        _ => yards::fair_tables(random, g, &few),
     };
     let r = join_radius(random, g);
     let need = needed(join(&r_lent.tables(g), &s_lent.tables(g), r, &mut []));
@@ -255,10 +277,11 @@ fn as_bytes(random: &mut Random, g: Grid, limits: &Limits, code: u64) -> Asked {
 
 /// A size out of its range.
 fn bad_size(random: &mut Random, most: u32) -> u32 {
-    match random.below(4) {
+    match random.below(5) {
         0 => 0,
         1 => most + 1,
         2 => u32::MAX - random.small(2),
+        3 => 1 << random.between(15, 31),
         _ => most + 1 + random.small(1 << 30),
     }
 }
@@ -268,6 +291,18 @@ fn fault_in_grid(random: &mut Random, g: &mut Grid) {
         g.n = bad_size(random, TILES_MOST);
     } else {
         g.side = bad_size(random, SIDE_MOST);
+    }
+}
+
+/// A wild n with the one start that 16×n²+1 comes to for 0, or where 32 bits run over.
+fn fault_in_tiles(random: &mut Random, call: &mut Call) {
+    call.g.n = random.pick(&[0, 1 << 14, 1 << 16, 1 << 31]);
+    match &mut call.asked {
+        Asked::Build { lent } | Asked::Check { lent } => lent.starts.truncate(1),
+        Asked::Search { lent, .. } | Asked::Start { lent, .. } => lent.starts.truncate(1),
+        Asked::Ask { lent, .. } => lent.starts.truncate(1),
+        Asked::Run { starts, .. } => starts.truncate(1),
+        _ => {}
     }
 }
 
@@ -318,8 +353,10 @@ fn fault_in_radius(random: &mut Random, r: &mut u32, most: u32) {
 
 /// Adds a fault that may bring a refusal, or hide behind an earlier one.
 fn add_fault(random: &mut Random, call: &mut Call, limits: &Limits) {
-    if random.chance(25) {
-        return fault_in_grid(random, &mut call.g);
+    match random.below(20) {
+        0 => return fault_in_tiles(random, call),
+        1..5 => return fault_in_grid(random, &mut call.g),
+        _ => {}
     }
     let g = call.g;
     let which = random.below(4);

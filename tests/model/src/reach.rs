@@ -1,13 +1,15 @@
 //! What calls reach: each ending of each call by name, and the endings that a good set of calls must have.
 
-use crate::call::{Answer, Asked, Call};
+use crate::call::{Answer, Asked, Call, Lent};
+use crate::index::check;
 use crate::refusal::Refusal;
+use crate::sizes::{Grid, NUMBERS_A_ROW};
 use std::collections::BTreeMap;
 
 /// The name of a call's ending: code, then how it ended.
 pub fn ending(call: &Call, answer: &Answer) -> String {
     let how = match answer.result {
-        Ok(value) => accepted(call, value).to_string(),
+        Ok(value) => format!("{}{}", accepted(call, value), origin(call)),
         Err(Refusal::Damaged(damage)) => format!("7 {damage:?}"),
         Err(refusal) => refusal.number().to_string(),
     };
@@ -23,6 +25,42 @@ fn accepted(call: &Call, value: u64) -> &'static str {
         Asked::Ask { j, .. } if value < u64::from(*j) => "short",
         _ if value == 0 => "none",
         _ => "some",
+    }
+}
+
+fn is_built(g: Grid, lent: &Lent) -> bool {
+    check(g, &lent.reg, &lent.starts, &lent.entries) == Ok(true)
+}
+
+/// The waiting rows of an accepted ask stand in their order.
+fn is_sorted(front: &[u64], waiting: u64) -> bool {
+    let rows = front.chunks_exact(NUMBERS_A_ROW).take(waiting as usize);
+    rows.is_sorted()
+}
+
+/// Where tables or fronts are of another origin than build and walk, for the calls that read them.
+fn origin(call: &Call) -> &'static str {
+    let g = call.g;
+    let built = match &call.asked {
+        Asked::Search { lent, .. } | Asked::Start { lent, .. } => is_built(g, lent),
+        Asked::Ask {
+            lent,
+            front,
+            waiting,
+            ..
+        } => {
+            if !is_sorted(front, *waiting) {
+                return " unsorted";
+            }
+            is_built(g, lent)
+        }
+        Asked::Join { r_lent, s_lent, .. } => is_built(g, r_lent) && is_built(g, s_lent),
+        _ => true,
+    };
+    if built {
+        ""
+    } else {
+        " foreign"
     }
 }
 
@@ -49,19 +87,45 @@ fn of_code(code: u64) -> Vec<&'static str> {
         2 | 12 => (&["yes", "no", "1", "2", "3"], vec![]),
         3 => (&["none", "some", "1", "2", "4"], ENTRY_DAMAGE[..2].to_vec()),
         23 => (&["none", "some", "4"], ENTRY_DAMAGE[..2].to_vec()),
-        4 | 14 => (
+        4 => (
+            &["none", "some", "some foreign", "1", "2", "4", "5", "6"],
+            ENTRY_DAMAGE.to_vec(),
+        ),
+        14 => (
             &["none", "some", "1", "2", "4", "5", "6"],
             ENTRY_DAMAGE.to_vec(),
         ),
         5 => (
-            &["accepted", "1", "2", "4", "6", "7 TooManyEntries"],
+            &[
+                "accepted",
+                "accepted foreign",
+                "1",
+                "2",
+                "4",
+                "6",
+                "7 TooManyEntries",
+            ],
             ENTRY_DAMAGE.to_vec(),
         ),
         6 => (
-            &["none asked", "some", "short", "1", "2", "4", "6"],
+            &[
+                "none asked",
+                "some",
+                "some foreign",
+                "some unsorted",
+                "short",
+                "short unsorted",
+                "1",
+                "2",
+                "4",
+                "6",
+            ],
             [&ENTRY_DAMAGE[..], &ASK_DAMAGE[..]].concat(),
         ),
-        _ => (&["none", "some", "1", "2", "5", "6"], ENTRY_DAMAGE.to_vec()),
+        _ => (
+            &["none", "some", "some foreign", "1", "2", "5", "6"],
+            ENTRY_DAMAGE.to_vec(),
+        ),
     };
     [own, &more].concat()
 }

@@ -394,6 +394,42 @@ fn unread_damage() -> Vec<Call> {
     ]
 }
 
+/// Tables of another origin without damage: not from 0, one run with entries out of order, twice and in the wrong tile.
+fn foreign_tables() -> Vec<Call> {
+    let g = SMALL_GRID;
+    let foreign = || {
+        let mut other = lent(g, &SMALL, &[]);
+        other.starts.fill(6);
+        other.starts[0] = 2;
+        other.entries = vec![9, 9, 4, 1, 1, 0, 9];
+        other
+    };
+    let small = || lent(g, &SMALL, &[]);
+    let walk = Walk {
+        x: 19,
+        y: 0,
+        waiting: 1,
+        damaged: false,
+    };
+    let front = [vec![0, TILE, 0], vec![0; 12]].concat();
+    vec![
+        check(g, foreign()),
+        run(g, foreign(), 0, 0),
+        run(g, foreign(), 3, 15),
+        search(g, foreign(), (5, 5), 30, 4),
+        search(g, foreign(), (19, 19), 13, 3),
+        search(g, foreign(), (5, 5), 30, 3),
+        start(g, foreign(), (5, 5), 39),
+        start(g, foreign(), (15, 5), 39),
+        ask(g, foreign(), front.clone(), walk, 3),
+        ask(g, foreign(), front, walk, 5),
+        join(g, foreign(), foreign(), 10, 32),
+        join(g, foreign(), small(), 3, 40),
+        join(g, small(), foreign(), 3, 40),
+        join(g, small(), foreign(), 3, 3),
+    ]
+}
+
 /// Random calls of a fixed seed, as many of each code, none of them long.
 fn random_calls() -> Vec<Call> {
     let mut random = Random::new(RANDOM_SEED);
@@ -420,6 +456,7 @@ pub fn calls() -> Vec<Call> {
         accepted_calls(),
         refusals(),
         unread_damage(),
+        foreign_tables(),
         random_calls(),
     ]
     .concat()

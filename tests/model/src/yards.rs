@@ -3,7 +3,7 @@
 use crate::call::Lent;
 use crate::index::{built, entry_count};
 use crate::random::Random;
-use crate::register::{footprint, footprint_count, lowest_bad};
+use crate::register::{footprint, footprint_count};
 use crate::sizes::{Grid, NUMBERS_A_FOOTPRINT, RADIUS_MOST, SIDE_MOST};
 use crate::span::Rectangle;
 
@@ -15,20 +15,35 @@ pub struct Limits {
     pub table_most: usize,
 }
 
-/// Footprints in one call whose work grows with their square.
-const FOOTPRINTS_PAIRED_MOST: usize = 600;
+/// The most footprints of a walk and of both sides of a join: there the model's work grows with their square.
+const FOOTPRINTS_WALKED_MOST: usize = 20_000;
+const FOOTPRINTS_JOINED_MOST: usize = 600;
+
+/// From so many footprints on, a yard has small ones only.
+const CROWD: usize = 200;
 
 /// Room that is kept free in a table, so that faults can make it longer.
 const SPARE: usize = 8;
 
 impl Limits {
-    /// For joins and walks, where the model works on every pair of footprints or waiting rows.
-    pub fn paired(self) -> Limits {
-        let footprints_most = self.footprints_most.min(FOOTPRINTS_PAIRED_MOST);
+    fn with_footprints(self, most: usize) -> Limits {
+        let footprints_most = self.footprints_most.min(most);
         Limits {
             footprints_most,
             ..self
         }
+    }
+
+    pub fn for_walks(self) -> Limits {
+        self.with_footprints(FOOTPRINTS_WALKED_MOST)
+    }
+
+    pub fn for_joins(self) -> Limits {
+        self.with_footprints(FOOTPRINTS_JOINED_MOST)
+    }
+
+    pub fn for_few(self) -> Limits {
+        self.with_footprints(5)
     }
 }
 
@@ -106,6 +121,12 @@ pub fn good_footprint(random: &mut Random, g: Grid) -> [u32; 4] {
     [x.0, y.0, x.1, y.1]
 }
 
+/// A footprint of few coordinates.
+fn small_footprint(random: &mut Random, g: Grid) -> [u32; 4] {
+    let (x, y) = (short(random, g), short(random, g));
+    [x.0, y.0, x.1, y.1]
+}
+
 /// A footprint that meets refusal 3.
 pub fn bad_footprint(random: &mut Random, g: Grid) -> [u32; 4] {
     let mut numbers = good_footprint(random, g);
@@ -132,17 +153,26 @@ fn footprints_wanted(random: &mut Random, limits: &Limits) -> usize {
     wanted.min(most)
 }
 
+/// The next footprint of a register: one that stands there already, or a new one.
+fn next_footprint(random: &mut Random, g: Grid, reg: &[u32], crowded: bool) -> [u32; 4] {
+    if !reg.is_empty() && random.chance(15) {
+        let first = NUMBERS_A_FOOTPRINT * random.place(footprint_count(reg));
+        return [reg[first], reg[first + 1], reg[first + 2], reg[first + 3]];
+    }
+    if crowded {
+        small_footprint(random, g)
+    } else {
+        good_footprint(random, g)
+    }
+}
+
 /// Good footprints, some of them equal, that need no more entries than the limit.
 pub fn register(random: &mut Random, g: Grid, limits: &Limits) -> Vec<u32> {
+    let wanted = footprints_wanted(random, limits);
     let mut reg: Vec<u32> = Vec::new();
     let mut room = limits.table_most as u64;
-    for number in 0..footprints_wanted(random, limits) {
-        let numbers = if number > 0 && random.chance(15) {
-            let first = NUMBERS_A_FOOTPRINT * random.place(number);
-            [reg[first], reg[first + 1], reg[first + 2], reg[first + 3]]
-        } else {
-            good_footprint(random, g)
-        };
+    for _ in 0..wanted {
+        let numbers = next_footprint(random, g, &reg, wanted >= CROWD);
         let need = entry_count(g, &numbers);
         if need > room || reg.len() + SPARE > limits.table_most {
             break;
@@ -219,12 +249,13 @@ fn change_one(random: &mut Random, lent: &mut Lent) {
         &mut lent.starts
     };
     let place = random.place(table.len());
-    table[place] = match random.below(7) {
+    table[place] = match random.below(8) {
         0 => table[place].wrapping_add(1),
         1 => table[place].wrapping_sub(1),
         2 => count,
         3 => random.small(count + 1),
         4 => table[random.place(place + 1)],
+        5 => table[place].wrapping_add(random.pick(&[1 << 28, 1 << 30, 1 << 31])),
         _ => random.wild(),
     };
 }
@@ -279,29 +310,36 @@ fn wild_tables(random: &mut Random, g: Grid, reg: Vec<u32>) -> Lent {
     }
 }
 
-/// Tables of any origin over a good register, which is then spoiled in some cases.
-pub fn any_tables(random: &mut Random, g: Grid, limits: &Limits) -> Lent {
-    let reg = register(random, g, limits);
-    let mut lent = match random.below(20) {
-        0 => wild_tables(random, g, reg),
-        1 | 2 => rising_tables(random, g, reg),
-        _ => built_tables(random, g, reg, limits),
-    };
-    match random.below(20) {
+/// Changes tables in one way; most of the ways leave them no longer as the build does.
+pub fn disturb(random: &mut Random, g: Grid, mut lent: Lent, limits: &Limits) -> Lent {
+    match random.below(10) {
         0..4 => change_one(random, &mut lent),
         4 => lent.entries.truncate(lent.entries.len() / 2),
         5 => lent = reordered(random, lent),
         6 if lent.entries.len() + SPARE <= limits.table_most => lent = shifted(random, lent),
         7 => lent.reg = register(random, g, limits),
-        8 => spoil_register(random, g, &mut lent.reg),
-        _ => {}
+        _ => spoil_register(random, g, &mut lent.reg),
     }
     lent
+}
+
+/// Tables of any origin.
+pub fn any_tables(random: &mut Random, g: Grid, limits: &Limits) -> Lent {
+    let reg = register(random, g, limits);
+    let lent = match random.below(20) {
+        0 => wild_tables(random, g, reg),
+        1..5 => rising_tables(random, g, reg),
+        _ => built_tables(random, g, reg, limits),
+    };
+    if random.chance(60) {
+        disturb(random, g, lent, limits)
+    } else {
+        lent
+    }
 }
 
 /// Tables as the build leaves them, for calls that should be accepted.
 pub fn fair_tables(random: &mut Random, g: Grid, limits: &Limits) -> Lent {
     let reg = register(random, g, limits);
-    debug_assert!(lowest_bad(g, &reg).is_none());
     built_tables(random, g, reg, limits)
 }
