@@ -8,45 +8,40 @@ use crate::random::Random;
 use crate::reach::Reached;
 use crate::yards::Limits;
 use std::io::{self, BufRead, BufReader, BufWriter, Write};
+use std::ops::Range;
 use std::process::{Child, ChildStdin, Command, ExitStatus, Stdio};
+use std::sync::Arc;
 use std::thread::{self, JoinHandle};
 
-/// Which random calls are made.
+/// Where calls come from: the places that are compared, and the call at each.
+pub trait Calls: Clone + Send + 'static {
+    fn places(&self) -> Range<u64>;
+    fn at(&self, place: u64) -> Call;
+}
+
+/// Random calls: every place of a seed has its own, whichever places are compared.
 #[derive(Clone)]
 pub struct Plan {
     pub seed: u64,
-    pub calls: u64,
+    pub places: Range<u64>,
     pub limits: Limits,
     pub codes: Vec<u64>,
 }
 
-impl Plan {
-    /// The place-th call of the plan.
-    pub fn call(&self, place: u64) -> Call {
+impl Calls for Plan {
+    fn places(&self) -> Range<u64> {
+        self.places.clone()
+    }
+
+    fn at(&self, place: u64) -> Call {
         let mut random = Random::of_place(self.seed, place);
         random_call(&mut random, &self.limits, &self.codes)
     }
 }
 
-/// Where calls come from: their count, and each by its place.
-pub trait Calls: Clone + Send + 'static {
-    fn count(&self) -> u64;
-    fn at(&self, place: u64) -> Call;
-}
-
-impl Calls for Plan {
-    fn count(&self) -> u64 {
-        self.calls
-    }
-
-    fn at(&self, place: u64) -> Call {
-        self.call(place)
-    }
-}
-
-impl Calls for std::sync::Arc<Vec<Call>> {
-    fn count(&self) -> u64 {
-        self.len() as u64
+impl Calls for Arc<Vec<Call>> {
+    fn places(&self) -> Range<u64> {
+        0..self.len() as u64
     }
 
     fn at(&self, place: u64) -> Call {
@@ -75,7 +70,7 @@ pub fn write_all(
 }
 
 fn write_calls(calls: impl Calls, to: &mut dyn Write) -> io::Result<()> {
-    for place in 0..calls.count() {
+    for place in calls.places() {
         to.write_all(call_text(&calls.at(place)).as_bytes())?;
     }
     Ok(())
@@ -153,7 +148,7 @@ fn read_answers(calls: &impl Calls, from: impl BufRead) -> Report {
         differ: 0,
         reached: Reached::default(),
     };
-    for place in 0..calls.count() {
+    for place in calls.places() {
         let call = calls.at(place);
         let expected = call.answer();
         let (came, other) = answers.answer(&call);

@@ -40,7 +40,7 @@ use std::sync::Arc;
 
 const USAGE: &str =
     "model vectors | answers | stored COMMAND.. | compare COMMAND.. | stops COMMAND.. \
-| texts COMMAND.. | text | self | reach | call PLACE; see README.md";
+| texts COMMAND.. | text | self | reach | calls; see README.md";
 
 fn main() -> ExitCode {
     let mut words = std::env::args().skip(1);
@@ -55,7 +55,7 @@ fn main() -> ExitCode {
         "text" => text(),
         "self" => selfchecks(&options),
         "reach" => reach(&options),
-        "call" => one_call(&options),
+        "calls" => calls(&options),
         _ => Err(USAGE.to_string()),
     });
     match done {
@@ -125,7 +125,7 @@ fn compare_inputs(
 ) -> Done {
     let command = options.command()?;
     let mut differ = 0;
-    for place in 0..options.calls {
+    for place in options.places() {
         let input = make(&mut Random::of_place(options.seed, place));
         let expected = expect(&input);
         let came = run_program(command, &input).map_err(|error| error.to_string())?;
@@ -159,7 +159,7 @@ fn stops(options: &Options) -> Done {
 /// Compares the steps with brute force on random yards.
 fn selfchecks(options: &Options) -> Done {
     let mut differ = 0;
-    for place in 0..options.calls {
+    for place in options.places() {
         let mut random = Random::of_place(options.seed, place);
         if let Err(difference) = selfcheck::check_yard(&mut random, &options.limits()) {
             differ += 1;
@@ -180,8 +180,8 @@ fn print_reached(reached: &Reached) {
 fn reach(options: &Options) -> Done {
     let plan = options.plan();
     let mut reached = Reached::default();
-    for place in 0..plan.calls {
-        let call = plan.call(place);
+    for place in plan.places() {
+        let call = plan.at(place);
         reached.add(&call, &call.answer());
     }
     print_reached(&reached);
@@ -192,9 +192,11 @@ fn reach(options: &Options) -> Done {
     Ok(missing.is_empty())
 }
 
-/// Prints one random call of a plan by its place.
-fn one_call(options: &Options) -> Done {
-    let word = options.words.first().ok_or(USAGE)?;
-    let place = word.parse().map_err(|_| USAGE.to_string())?;
-    print(format::call_text(&options.plan().call(place)).as_bytes())
+/// Prints random calls without running them.
+fn calls(options: &Options) -> Done {
+    let plan = options.plan();
+    for place in plan.places() {
+        print(format::call_text(&plan.at(place)).as_bytes())?;
+    }
+    Ok(true)
 }

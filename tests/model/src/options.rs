@@ -5,10 +5,12 @@ use crate::compare::Plan;
 use crate::format::{Takes, DRIVER, REPLAY};
 use crate::sizes::{CLASSES, FOOTPRINTS_MOST, TILES_MOST};
 use crate::yards::Limits;
+use std::ops::Range;
 
 /// What was asked for, with the limits of `replay` unless told otherwise.
 pub struct Options {
     pub seed: u64,
+    pub from: u64,
     pub calls: u64,
     pub tiles: u32,
     pub footprints: usize,
@@ -21,6 +23,7 @@ pub struct Options {
 fn unset() -> Options {
     Options {
         seed: 1,
+        from: 0,
         calls: 1_000,
         tiles: 15,
         footprints: 40,
@@ -51,6 +54,7 @@ impl Options {
         while let Some(word) = words.next() {
             match word.as_str() {
                 "--seed" => options.seed = number(&word, words.next())?,
+                "--from" => options.from = number(&word, words.next())?,
                 "--calls" => options.calls = number(&word, words.next())?,
                 "--tiles" => options.tiles = number(&word, words.next())?,
                 "--footprints" => options.footprints = number(&word, words.next())?,
@@ -83,6 +87,11 @@ impl Options {
         Ok(self)
     }
 
+    /// The places of the seed that are made.
+    pub fn places(&self) -> Range<u64> {
+        self.from..self.from + self.calls
+    }
+
     pub fn limits(&self) -> Limits {
         Limits {
             tiles_most: self.tiles,
@@ -94,7 +103,7 @@ impl Options {
     pub fn plan(&self) -> Plan {
         Plan {
             seed: self.seed,
-            calls: self.calls,
+            places: self.places(),
             limits: self.limits(),
             codes: self.codes.clone(),
         }

@@ -3,7 +3,11 @@
 use crate::call::Call;
 use crate::faults;
 use crate::format::call_numbers;
+use crate::index::build;
+use crate::refusal::Refusal;
+use crate::sizes::Grid;
 use crate::stored::accepted_calls;
+use crate::tables::run;
 
 /// The order in which refusals are judged.
 fn order(code: u64) -> &'static [u64] {
@@ -57,4 +61,28 @@ fn of_two_faults_the_first_judged_is_told() {
             }
         }
     }
+}
+
+#[test]
+fn a_register_has_at_most_65536_footprints() {
+    let g = Grid { n: 1, side: 1 };
+    let room = |footprints: usize| {
+        let mut starts = [0; 17];
+        build(g, &vec![0; 4 * footprints], &mut starts, &mut [])
+    };
+    assert_eq!(room(65_536), Err(Refusal::Room(65_536)));
+    assert_eq!(room(65_537), Err(Refusal::Lengths));
+}
+
+#[test]
+fn an_end_is_at_most_268435456() {
+    let g = Grid { n: 1, side: 1 };
+    let ends_at = |end, lent| {
+        let mut starts = [0; 17];
+        starts[1] = end;
+        run(g, &starts, lent, 0, 0).is_ok()
+    };
+    assert!(ends_at(268_435_456, 268_435_456));
+    assert!(!ends_at(268_435_456, 268_435_455));
+    assert!(!ends_at(268_435_457, 300_000_000));
 }
