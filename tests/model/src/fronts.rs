@@ -1,10 +1,10 @@
 //! Random asks: fronts as walks leave them, then shuffled, shortened, changed in one number or wholly random, with states to match or not.
 
 use crate::call::{Asked, Lent};
-use crate::groups::Group;
+use crate::groups::{Centre, Group};
 use crate::random::Random;
 use crate::register::footprint_count;
-use crate::sizes::{Grid, NUMBERS_A_ROW, NUMBERS_GIVEN};
+use crate::sizes::{Grid, DIRECTIONS, LEVELS, NUMBERS_A_ROW, NUMBERS_GIVEN};
 use crate::tables::Tables;
 use crate::walk::{self, start_need, Row, Walk, FOOTPRINT, GROUP, TILE};
 use crate::yards::{self, Limits};
@@ -42,48 +42,73 @@ fn walked(
     Some(Waiting { front, walk })
 }
 
-/// A row that may exist or not.
-fn any_row(random: &mut Random, tables: &Tables) -> Row {
-    let kind = match random.below(20) {
+/// What exists around the point of a walk.
+struct Around {
+    groups: Vec<u64>,
+    tiles: u64,
+    footprints: u64,
+}
+
+impl Around {
+    fn new(tables: &Tables, (x, y): (u32, u32)) -> Around {
+        let centre = Centre { g: tables.g, x, y };
+        let groups = (0..DIRECTIONS).flat_map(|direction| centre.groups(direction));
+        Around {
+            groups: groups.map(Group::number).collect(),
+            tiles: u64::from(tables.g.tile_count()),
+            footprints: footprint_count(tables.reg) as u64,
+        }
+    }
+
+    /// A number for a row of this kind: of something that exists, if there is any.
+    fn number(&self, random: &mut Random, kind: u64) -> u64 {
+        match kind {
+            GROUP if !self.groups.is_empty() => random.pick(&self.groups),
+            TILE => random.below(self.tiles),
+            FOOTPRINT if self.footprints > 0 => random.below(self.footprints),
+            _ => random.below(3),
+        }
+    }
+
+    /// A number for a row of this kind that is none of those.
+    fn wrong_number(&self, random: &mut Random, kind: u64) -> u64 {
+        match random.below(7) {
+            0 => random.below(DIRECTIONS) * LEVELS,
+            1 => DIRECTIONS * LEVELS + random.below(3),
+            2 => random.wild_long(),
+            3 => self.tiles,
+            4 => self.footprints,
+            5 => self.number(random, GROUP) + 1,
+            _ => self.number(random, kind) + (1 << 32),
+        }
+    }
+}
+
+fn any_kind(random: &mut Random) -> u64 {
+    match random.below(30) {
         0 => 3,
         1 => random.wild_long(),
         2 => (1 << 32) + random.below(3),
         _ => random.pick(&[GROUP, TILE, FOOTPRINT]),
-    };
+    }
+}
+
+/// A row that in most cases exists, with any square.
+fn any_row(random: &mut Random, around: &Around) -> Row {
+    let kind = any_kind(random);
     let square = match random.below(3) {
         0 => random.below(4),
         1 => random.below(20_000),
         _ => random.wild_long(),
     };
+    let number = match random.chance(10) {
+        true => around.wrong_number(random, kind),
+        false => around.number(random, kind),
+    };
     Row {
         square,
         kind,
-        number: any_number(random, tables, kind),
-    }
-}
-
-/// A number for a row of this kind: in most cases of something that exists.
-fn any_number(random: &mut Random, tables: &Tables, kind: u64) -> u64 {
-    let tiles = u64::from(tables.g.tile_count());
-    let count = footprint_count(tables.reg) as u64;
-    let near = match kind {
-        GROUP => Group {
-            direction: random.below(4),
-            level: 1 + random.below(u64::from(tables.g.n)),
-        }
-        .number(),
-        TILE => random.below(tiles),
-        _ if count > 0 => random.below(count),
-        _ => 0,
-    };
-    match random.below(24) {
-        0 => random.below(4) * 64,
-        1 => 256 + random.below(3),
-        2 => random.wild_long(),
-        3 => tiles,
-        4 => count,
-        5 => near + (1 << 32),
-        _ => near,
+        number,
     }
 }
 
@@ -97,8 +122,9 @@ fn rows_to_numbers(rows: &[Row]) -> Vec<u64> {
 /// A front of rows that no walk left there.
 fn made_up(random: &mut Random, tables: &Tables, at: (u32, u32)) -> Waiting {
     let count = random.place(6);
-    let mut rows: Vec<Row> = (0..count).map(|_| any_row(random, tables)).collect();
-    if random.chance(50) {
+    let around = Around::new(tables, at);
+    let mut rows: Vec<Row> = (0..count).map(|_| any_row(random, &around)).collect();
+    if random.chance(35) {
         rows.sort();
     }
     let mut front = rows_to_numbers(&rows);
@@ -125,15 +151,25 @@ fn shuffle_rows(random: &mut Random, waiting: &mut Waiting) {
     }
 }
 
+/// Rows of a front in another order, a group or tile that exists put first.
+fn disorder(random: &mut Random, waiting: &mut Waiting, around: &Around) {
+    shuffle_rows(random, waiting);
+    if waiting.walk.waiting > 0 && random.chance(60) {
+        let kind = random.pick(&[GROUP, TILE]);
+        waiting.front[1] = kind;
+        waiting.front[2] = around.number(random, kind);
+    }
+}
+
 /// Puts any row in the place of a waiting one.
-fn change_row(random: &mut Random, waiting: &mut Waiting, tables: &Tables) {
+fn change_row(random: &mut Random, waiting: &mut Waiting, around: &Around) {
     let rows = (waiting.walk.waiting as usize).min(waiting.front.len() / NUMBERS_A_ROW);
     if rows == 0 {
         return;
     }
     let any = random.place(rows);
     let first = NUMBERS_A_ROW * random.pick(&[0, any, rows - 1]);
-    let new = rows_to_numbers(&[any_row(random, tables)]);
+    let new = rows_to_numbers(&[any_row(random, around)]);
     if random.chance(50) {
         waiting.front[first..first + NUMBERS_A_ROW].copy_from_slice(&new);
     } else {
@@ -150,10 +186,10 @@ fn shorten(random: &mut Random, waiting: &mut Waiting) {
 }
 
 /// Changes the front or the state in one way.
-fn spoil(random: &mut Random, waiting: &mut Waiting, tables: &Tables) {
+fn spoil(random: &mut Random, waiting: &mut Waiting, around: &Around) {
     match random.below(10) {
-        0 | 1 => shuffle_rows(random, waiting),
-        2..5 => change_row(random, waiting, tables),
+        0..3 => disorder(random, waiting, around),
+        3..5 => change_row(random, waiting, around),
         5 | 6 => shorten(random, waiting),
         7 => waiting.walk.waiting = (waiting.front.len() / NUMBERS_A_ROW) as u64 + random.below(2),
         8 => waiting.walk.waiting = other_count(random, waiting.walk.waiting),
@@ -205,13 +241,13 @@ fn output(random: &mut Random, j: u32, limits: &Limits) -> Vec<u64> {
 /// The front and state of a walk over these tables, or made up, and spoiled in some cases.
 fn any_waiting(random: &mut Random, tables: &Tables, at: (u32, u32), limits: &Limits) -> Waiting {
     let walked = walked(random, tables, at, limits);
-    let made = random.chance(10);
+    let made = random.chance(20);
     let mut waiting = match walked {
         Some(waiting) if !made => waiting,
         _ => made_up(random, tables, at),
     };
     if random.chance(45) {
-        spoil(random, &mut waiting, tables);
+        spoil(random, &mut waiting, &Around::new(tables, at));
     }
     waiting
 }

@@ -24,6 +24,13 @@ pub const SMALL: [u32; 20] = [
     5, 5, 5, 5, 2, 12, 17, 13, 0, 0, 19, 19, 8, 3, 11, 9, 8, 3, 11, 9,
 ];
 
+/// A tile as far from (5, 5) as a footprint of the first tile, and holding a lower number.
+const TIES: [u32; 16] = [10, 5, 10, 5, 0, 5, 0, 5, 5, 10, 5, 12, 0, 5, 0, 5];
+
+/// Footprints that lie across rows or columns beside each other, so that their join is met in two tiles and listed in one.
+const BESIDE_R: [u32; 16] = [5, 5, 8, 15, 5, 5, 15, 8, 0, 0, 9, 19, 3, 12, 4, 19];
+const BESIDE_S: [u32; 16] = [12, 5, 15, 15, 5, 12, 15, 15, 10, 0, 19, 19, 12, 0, 19, 13];
+
 const RANDOM_SEED: u64 = 9;
 const RANDOM_CALLS: u64 = 140;
 const RANDOM_NUMBERS_MOST: usize = 160;
@@ -114,6 +121,7 @@ fn cases_of_y() -> Vec<Call> {
     let y = || lent(g, &Y, &[7, 4_294_967_295]);
     let mut calls: Vec<Call> = [23, 22, 26, 0].map(|room| build(g, &Y, room)).into();
     calls.push(check(g, y()));
+    calls.extend(other_tables_of_y().map(|other| check(g, other)));
     for (tile, class) in [
         (8, 4),
         (9, 12),
@@ -140,6 +148,35 @@ fn cases_of_y() -> Vec<Call> {
     }
     calls.push(join(g, y(), dig(), 100, 9));
     calls.push(join(g, y(), y(), 100, 60));
+    calls
+}
+
+/// Tables that are not what the build leaves for Y.
+fn other_tables_of_y() -> [Lent; 5] {
+    let changes: [fn(&mut Lent); 5] = [
+        |lent| lent.entries[22] = 4,
+        |lent| lent.entries.swap(20, 21),
+        |lent| lent.entries.truncate(22),
+        |lent| lent.starts[256] = 24,
+        |lent| lent.starts[1] = 1,
+    ];
+    changes.map(|change| {
+        let mut other = lent(Y_GRID, &Y, &[3]);
+        change(&mut other);
+        other
+    })
+}
+
+/// Joins of footprints beside each other, both ways.
+fn joins_beside() -> Vec<Call> {
+    let g = SMALL_GRID;
+    let (one, other) = (|| lent(g, &BESIDE_R, &[]), || lent(g, &BESIDE_S, &[]));
+    let mut calls = Vec::new();
+    for r in [0, 1, 3, 10] {
+        calls.push(join(g, one(), other(), r, 32));
+        calls.push(join(g, other(), one(), r, 32));
+    }
+    calls.push(join(g, one(), one(), 10, 32));
     calls
 }
 
@@ -201,6 +238,7 @@ fn walks() -> Vec<Call> {
     ));
     calls.extend(walk_calls(SMALL_GRID, &SMALL, (10, 9), &[5, 1]));
     calls.extend(walk_calls(SMALL_GRID, &SMALL, (0, 19), &[9]));
+    calls.extend(walk_calls(SMALL_GRID, &TIES, (5, 5), &[1, 1, 1, 1, 1]));
     calls
 }
 
@@ -231,7 +269,17 @@ fn damage_on_the_way() -> Vec<Call> {
 
 /// Fronts that no walk leaves, in the small yard from (5, 5).
 fn made_fronts() -> Vec<Call> {
-    let rows: [&[[u64; 3]]; 16] = [
+    let rows: [&[[u64; 3]]; 20] = [
+        &[[0, GROUP, 65], [30, FOOTPRINT, 0], [3, FOOTPRINT, 1]],
+        &[[0, GROUP, 65], [900, GROUP, 1], [3, FOOTPRINT, 1]],
+        &[
+            [9, TILE, 0],
+            [0, FOOTPRINT, 0],
+            [90, FOOTPRINT, 1],
+            [0, FOOTPRINT, 3],
+            [0, TILE, 2],
+        ],
+        &[[9, TILE, 1], [25, FOOTPRINT, 0], [9, TILE, 0], [0, TILE, 0]],
         &[[9, FOOTPRINT, 0], [4, FOOTPRINT, 1], [2, TILE, 3]],
         &[[7, TILE, 0]],
         &[[7, TILE, 1], [7, TILE, 1]],
@@ -448,6 +496,7 @@ fn random_calls() -> Vec<Call> {
 pub fn calls() -> Vec<Call> {
     [
         cases_of_y(),
+        joins_beside(),
         empty_register(),
         walks(),
         made_fronts(),

@@ -5,7 +5,7 @@ use crate::format::{call_text, REPLAY};
 use crate::hostile::random_call;
 use crate::random::Random;
 use crate::sizes::{Grid, RADIUS_MOST};
-use crate::text::{BYTES_MOST, PROGRAM_FOOTPRINTS_MOST, PROGRAM_TILES_MOST};
+use crate::text::{BYTES_MOST, PROGRAM_ENTRIES_MOST, PROGRAM_FOOTPRINTS_MOST, PROGRAM_TILES_MOST};
 use crate::yards::{self, Limits};
 
 const SHEET_LIMITS: Limits = Limits {
@@ -49,25 +49,34 @@ fn question(random: &mut Random, g: Grid, reg: &[u32], text: &mut String) {
     }
 }
 
-/// Many small footprints or many large ones, around the program's limits.
+/// So many equal footprints.
+fn many(footprint: [u32; 4], count: usize) -> Vec<u32> {
+    footprint.iter().copied().cycle().take(4 * count).collect()
+}
+
+/// A register around the program's limit of footprints or of entries.
 fn crowd(random: &mut Random, g: Grid) -> Vec<u32> {
-    let whole = [0, 0, g.reach() - 1, g.reach() - 1];
-    let point = [0, 0, 0, 0];
-    let (each, count) = match random.below(3) {
-        0 => (point, PROGRAM_FOOTPRINTS_MOST + random.place(2)),
-        1 => (whole, 8_192 / g.tile_count() as usize + random.place(2)),
-        _ => (point, 600),
-    };
-    let count = count.min(900);
-    each.iter().copied().cycle().take(4 * count).collect()
+    let last = g.reach() - 1;
+    let point = [last, 0, last, 0];
+    let whole = [0, 0, last, last];
+    if random.chance(40) {
+        return many(point, PROGRAM_FOOTPRINTS_MOST + random.place(2));
+    }
+    let fit = PROGRAM_ENTRIES_MOST / g.tile_count() as usize;
+    let mut reg = many(whole, fit.min(PROGRAM_FOOTPRINTS_MOST));
+    reg.extend(many(point, random.place(2)));
+    reg
 }
 
 /// A sound text register, whose numbers may still be refused.
 pub fn sound_sheet(random: &mut Random) -> String {
-    let g = yards::grid(random, &SHEET_LIMITS);
+    let mut g = yards::grid(random, &SHEET_LIMITS);
     let mut reg = yards::register(random, g, &SHEET_LIMITS);
     match random.below(20) {
-        0 => reg = crowd(random, g),
+        0 => {
+            g.n = random.pick(&[1, 4, 8, 16]);
+            reg = crowd(random, g);
+        }
         1 if !reg.is_empty() => {
             let place = random.place(reg.len());
             reg[place] = seven_digits(random);
@@ -98,7 +107,7 @@ pub fn broken(random: &mut Random, mut text: Vec<u8>) -> Vec<u8> {
         return text;
     }
     let place = random.place(text.len());
-    match random.below(8) {
+    match random.below(10) {
         0 => text.truncate(place),
         1 => drop(text.remove(place)),
         2 => text[place] = random.next() as u8,
@@ -106,7 +115,8 @@ pub fn broken(random: &mut Random, mut text: Vec<u8>) -> Vec<u8> {
         4 => drop(text.pop()),
         5 => text.push(b'\n'),
         6 => swap_lines(random, &mut text),
-        _ => drop_line(random, &mut text),
+        7 => drop_line(random, &mut text),
+        _ => other_number(random, &mut text),
     }
     text
 }
@@ -121,6 +131,17 @@ fn swap_lines(random: &mut Random, text: &mut Vec<u8>) {
     let mut lines = lines_of(text);
     let (one, other) = (random.place(lines.len()), random.place(lines.len()));
     lines.swap(one, other);
+    *text = lines.concat();
+}
+
+/// Another number in a line: as long as may be, one digit longer, or with a leading zero.
+fn other_number(random: &mut Random, text: &mut Vec<u8>) {
+    let mut lines = lines_of(text);
+    let place = random.place(lines.len());
+    let digits = random.pick(&["1234567", "12345678", "0", "00", "01", "0000001", ""]);
+    let key = lines[place].split(|&byte| byte == b'=').next();
+    let key = String::from_utf8_lossy(key.unwrap_or_default()).into_owned();
+    lines[place] = format!("{key}={digits}\n").into_bytes();
     *text = lines.concat();
 }
 

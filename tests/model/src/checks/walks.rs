@@ -46,6 +46,29 @@ fn a_new_row_goes_before_the_first_greater() {
 }
 
 #[test]
+fn a_footprint_is_given_with_the_square_of_its_row() {
+    let owned = small();
+    let mut front = vec![12_345, FOOTPRINT, 1];
+    let mut out = [0; 2];
+    let tables = owned.tables(SMALL_GRID);
+    let (answer, _) = ask(&tables, &mut front, walk(1), 1, &mut out);
+    assert_eq!((answer, out), (Ok(1), [1, 12_345]));
+}
+
+#[test]
+fn rows_of_nothing_are_damage() {
+    let group = |number| asked(&[[0, GROUP, number]], 9, 1).0;
+    for number in [0, 64, 128, 192, 2, 66, 129, 193, 256, 257, u64::MAX] {
+        assert_eq!(group(number), Err(Refusal::Damaged(Damage::Group)));
+    }
+    assert!(group(1).is_ok() && group(65).is_ok());
+    let tile = asked(&[[0, TILE, 4]], 9, 1).0;
+    assert_eq!(tile, Err(Refusal::Damaged(Damage::TileRow)));
+    let footprint = asked(&[[0, FOOTPRINT, 5]], 9, 1).0;
+    assert_eq!(footprint, Err(Refusal::Damaged(Damage::FootprintRow)));
+}
+
+#[test]
 fn the_place_of_a_taken_row_is_room() {
     let (answer, _, _) = asked(&[[0, TILE, 3]], 1, 1);
     assert_eq!(answer, Ok(0));
