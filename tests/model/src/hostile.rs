@@ -34,7 +34,7 @@ pub fn random_call(random: &mut Random, limits: &Limits, codes: &[u64]) -> Call 
     if random.chance(12) {
         add_fault(random, &mut call, limits);
     }
-    if random.chance(3) {
+    if random.chance(7) {
         add_fault(random, &mut call, limits);
     }
     call

@@ -13,9 +13,8 @@ impl Random {
 
     /// A generator of its own for the place-th call of a seed, so that every call can be made again alone.
     pub fn of_place(seed: u64, place: u64) -> Random {
-        let mut mixed = Random::new(seed);
-        let first = mixed.next();
-        Random::new(first ^ place.wrapping_mul(0x9E37_79B9_7F4A_7C15))
+        let (mut by_seed, mut by_place) = (Random::new(seed), Random::new(!place));
+        Random::new(by_seed.next().wrapping_add(by_place.next()))
     }
 
     pub fn next(&mut self) -> u64 {

@@ -341,6 +341,10 @@ fn states() -> Vec<Call> {
     for (x, mark) in [(20, 0), (20, 1), (4_294_967_295, 1)] {
         calls.push(told_state(0, mark, 1, x));
     }
+    for j in [1 << 31, (1 << 31) + 2, u32::MAX] {
+        calls.push(told_state(0, 0, j, 5));
+        calls.push(told_state(9, 1, j, 5));
+    }
     for tail in [0, 1, 2] {
         let walk = Walk {
             x: 0,
@@ -460,7 +464,14 @@ fn foreign_tables() -> Vec<Call> {
         damaged: false,
     };
     let front = [vec![0, TILE, 0], vec![0; 12]].concat();
+    let long_front = [vec![0, TILE, 0], vec![0; 27]].concat();
+    let mut many = foreign();
+    many.starts[1..].fill(9);
+    many.entries = vec![9, 9, 0, 1, 3, 3, 4, 0, 0];
     vec![
+        ask(g, many.clone(), long_front.clone(), walk, 2),
+        ask(g, many.clone(), long_front, walk, 7),
+        start(g, many, (5, 5), 39),
         check(g, foreign()),
         run(g, foreign(), 0, 0),
         run(g, foreign(), 3, 15),

@@ -2,6 +2,7 @@
 
 mod bytes;
 mod format;
+mod memory;
 mod refusals;
 mod rules;
 mod starred;

@@ -126,3 +126,25 @@ fn equal_counts_in_the_first_tile_are_no_damage() {
     let (answer, _) = start(&owned.tables(SMALL_GRID), 0, 0, &mut [0; 39]);
     assert_eq!(answer, Err(Refusal::Damaged(Damage::TooManyEntries)));
 }
+
+#[test]
+fn an_opened_tile_may_have_more_entries_than_footprints() {
+    let mut owned = small();
+    owned.starts[1..].fill(7);
+    owned.entries = vec![0, 0, 0, 1, 1, 2, 0];
+    let mut front = [vec![0, TILE, 0], vec![0; 18]].concat();
+    let mut out = [0; 14];
+    let tables = owned.tables(SMALL_GRID);
+    let (answer, _) = ask(&tables, &mut front, walk(1), 7, &mut out);
+    assert_eq!(answer, Ok(7));
+}
+
+#[test]
+fn the_need_of_a_large_ask_is_told_whole() {
+    let owned = small();
+    let tables = owned.tables(SMALL_GRID);
+    for j in [1 << 31, u32::MAX] {
+        let (answer, _) = ask(&tables, &mut [], walk(0), j, &mut [0; 4]);
+        assert_eq!(answer, Err(Refusal::Room(2 * u64::from(j))));
+    }
+}
