@@ -327,6 +327,7 @@ fn states() -> Vec<Call> {
     let mut calls = Vec::new();
     let most = u64::MAX;
     let told = [
+        (1, 0),
         (4, 0),
         (5, 0),
         (most, 0),
@@ -361,7 +362,7 @@ fn states() -> Vec<Call> {
 /// An ask over four whole rows and a number more.
 fn told_state(waiting: u64, mark: u32, j: u32, x: u32) -> Call {
     let g = SMALL_GRID;
-    let front = [0, FOOTPRINT, 0].iter().copied().cycle().take(13).collect();
+    let front = [0, FOOTPRINT, 1].iter().copied().cycle().take(13).collect();
     call(
         g,
         Asked::Ask {
@@ -466,6 +467,9 @@ fn foreign_tables() -> Vec<Call> {
     let front = [vec![0, TILE, 0], vec![0; 12]].concat();
     let long_front = [vec![0, TILE, 0], vec![0; 27]].concat();
     let mut many = foreign();
+    let mut bad = foreign();
+    bad.reg[6] = 20;
+    bad.reg[13] = 20;
     many.starts[1..].fill(9);
     many.entries = vec![9, 9, 0, 1, 3, 3, 4, 0, 0];
     vec![
@@ -473,6 +477,7 @@ fn foreign_tables() -> Vec<Call> {
         ask(g, many.clone(), long_front, walk, 7),
         start(g, many, (5, 5), 39),
         check(g, foreign()),
+        check(g, bad),
         run(g, foreign(), 0, 0),
         run(g, foreign(), 3, 15),
         search(g, foreign(), (5, 5), 30, 4),

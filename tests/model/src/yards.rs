@@ -183,10 +183,14 @@ pub fn register(random: &mut Random, g: Grid, limits: &Limits) -> Vec<u32> {
     reg
 }
 
-/// Puts a bad footprint in the place of one of a register's.
+/// Puts bad footprints in the places of one or two of a register's.
 pub fn spoil_register(random: &mut Random, g: Grid, reg: &mut [u32]) {
-    if reg.len() >= NUMBERS_A_FOOTPRINT {
-        let first = NUMBERS_A_FOOTPRINT * random.place(footprint_count(reg));
+    let count = footprint_count(reg);
+    if count == 0 {
+        return;
+    }
+    for _ in 0..random.pick(&[1, 1, 2]) {
+        let first = NUMBERS_A_FOOTPRINT * random.place(count);
         let bad = bad_footprint(random, g);
         reg[first..first + NUMBERS_A_FOOTPRINT].copy_from_slice(&bad);
     }

@@ -3,10 +3,10 @@
 use crate::call::Call;
 use crate::faults;
 use crate::format::call_numbers;
-use crate::index::build;
+use crate::index::{build, check};
 use crate::refusal::Refusal;
 use crate::sizes::Grid;
-use crate::stored::accepted_calls;
+use crate::stored::{accepted_calls, SMALL, SMALL_GRID};
 use crate::tables::run;
 
 /// The order in which refusals are judged.
@@ -85,4 +85,15 @@ fn an_end_is_at_most_268435456() {
     assert!(ends_at(268_435_456, 268_435_456));
     assert!(!ends_at(268_435_456, 268_435_455));
     assert!(!ends_at(268_435_457, 300_000_000));
+}
+
+#[test]
+fn the_lowest_bad_footprint_is_told_before_all_about_tables() {
+    let mut reg = SMALL;
+    reg[7] = 20;
+    reg[16] = 12;
+    let mut starts = [5; 65];
+    let lowest = Err(Refusal::Footprint(1));
+    assert_eq!(build(SMALL_GRID, &reg, &mut starts, &mut []), lowest);
+    assert_eq!(check(SMALL_GRID, &reg, &starts, &[]).map(u64::from), lowest);
 }

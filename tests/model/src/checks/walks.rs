@@ -56,6 +56,17 @@ fn a_footprint_is_given_with_the_square_of_its_row() {
 }
 
 #[test]
+fn rows_past_the_count_do_not_wait() {
+    let owned = small();
+    let mut front = vec![1, FOOTPRINT, 0, 2, FOOTPRINT, 1];
+    let mut out = [9; 4];
+    let tables = owned.tables(SMALL_GRID);
+    let (answer, after) = ask(&tables, &mut front, walk(1), 2, &mut out);
+    assert_eq!((answer, after.waiting), (Ok(1), 0));
+    assert_eq!((front, out), (vec![0; 6], [0, 1, 9, 9]));
+}
+
+#[test]
 fn rows_of_nothing_are_damage() {
     let group = |number| asked(&[[0, GROUP, number]], 9, 1).0;
     for number in [0, 64, 128, 192, 2, 66, 129, 193, 256, 257, u64::MAX] {
