@@ -22,15 +22,30 @@ pub(crate) fn told_refusal(r: Refusal) -> Told
     ensures { λ t. ⌜ t ≡ outward (paper r) ⌝ }
 {
     match r {
-        Refusal::Sizes => Told { number: 1, value: 0 },
-        Refusal::Lengths => Told { number: 2, value: 0 },
+        Refusal::Sizes => Told {
+            number: 1,
+            value: 0,
+        },
+        Refusal::Lengths => Told {
+            number: 2,
+            value: 0,
+        },
         Refusal::Footprint(i) => Told {
             number: 3,
             value: i as u64,
         },
-        Refusal::Place => Told { number: 4, value: 0 },
-        Refusal::Radius => Told { number: 5, value: 0 },
-        Refusal::Damage => Told { number: 7, value: 0 },
+        Refusal::Place => Told {
+            number: 4,
+            value: 0,
+        },
+        Refusal::Radius => Told {
+            number: 5,
+            value: 0,
+        },
+        Refusal::Damage => Told {
+            number: 7,
+            value: 0,
+        },
         Refusal::Room(need) => Told {
             number: 6,
             value: need,
@@ -60,8 +75,14 @@ pub(crate) fn told_checked(a: Checked) -> Told
     ensures { λ t. ⌜ t ≡ outward (paperChecked a) ⌝ }
 {
     match a {
-        Checked::Yes => Told { number: 0, value: 1 },
-        Checked::No => Told { number: 0, value: 0 },
+        Checked::Yes => Told {
+            number: 0,
+            value: 1,
+        },
+        Checked::No => Told {
+            number: 0,
+            value: 0,
+        },
         Checked::Refused(r) => told_refusal(r),
     }
 }
