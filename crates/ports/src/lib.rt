@@ -18,19 +18,34 @@ pub struct Told {
 }
 
 // A refusal's number and its value, 0 where it has none.
-pub(crate) fn told_refusal(r: Refusal) -> Told
+pub fn told_refusal(r: Refusal) -> Told
     ensures { λ t. ⌜ t ≡ outward (paper r) ⌝ }
 {
     match r {
-        Refusal::Sizes => Told { number: 1, value: 0 },
-        Refusal::Lengths => Told { number: 2, value: 0 },
+        Refusal::Sizes => Told {
+            number: 1,
+            value: 0,
+        },
+        Refusal::Lengths => Told {
+            number: 2,
+            value: 0,
+        },
         Refusal::Footprint(i) => Told {
             number: 3,
             value: i as u64,
         },
-        Refusal::Place => Told { number: 4, value: 0 },
-        Refusal::Radius => Told { number: 5, value: 0 },
-        Refusal::Damage => Told { number: 7, value: 0 },
+        Refusal::Place => Told {
+            number: 4,
+            value: 0,
+        },
+        Refusal::Radius => Told {
+            number: 5,
+            value: 0,
+        },
+        Refusal::Damage => Told {
+            number: 7,
+            value: 0,
+        },
         Refusal::Room(need) => Told {
             number: 6,
             value: need,
@@ -43,7 +58,7 @@ pub(crate) fn told_refusal(r: Refusal) -> Told
 }
 
 // An answer's number and its value.
-pub(crate) fn told_answer(a: Answer) -> Told
+pub fn told_answer(a: Answer) -> Told
     ensures { λ t. ⌜ t ≡ outward (paperAnswer a) ⌝ }
 {
     match a {
@@ -56,12 +71,18 @@ pub(crate) fn told_answer(a: Answer) -> Told
 }
 
 // A check's number, and 1 for yes, 0 for no.
-pub(crate) fn told_checked(a: Checked) -> Told
+pub fn told_checked(a: Checked) -> Told
     ensures { λ t. ⌜ t ≡ outward (paperChecked a) ⌝ }
 {
     match a {
-        Checked::Yes => Told { number: 0, value: 1 },
-        Checked::No => Told { number: 0, value: 0 },
+        Checked::Yes => Told {
+            number: 0,
+            value: 1,
+        },
+        Checked::No => Told {
+            number: 0,
+            value: 0,
+        },
         Checked::Refused(r) => told_refusal(r),
     }
 }
