@@ -6,3 +6,5 @@ pub mod Sorted
 pub mod Pairs
 pub mod Made
 pub mod Verdict
+pub mod Right
+pub mod Limits

@@ -17,12 +17,13 @@ use Rattle.laws.proofs.Ranges.{mem-from}
 use Rattle.rules.specs.Sizes.{badSizes, tileCount, column}
 use Rattle.rules.specs.Register.{count, footprints, badRegister, badFootprint, badFootprints}
 use Rattle.rules.specs.Tables.{tables, runs, badStarts, badLengths, builtEntries, builtStarts}
-use Rattle.rules.specs.Refusals.{Verdict, pass, refuse, judge, judgeFootprints, judgeRoom, paperAnswer}
-use Rattle.rules.specs.Build.{registerVerdict, buildVerdict, builds}
+use Rattle.rules.specs.Refusals.{Verdict, pass, refuse, judge, judgeFootprints, judgeRoom, paperAnswer, paperChecked}
+use Rattle.rules.specs.Build.{registerVerdict, buildVerdict, builds, isBuilt, checks}
 use Rattle.rules.specs.declared.Grid.{Grid}
 use Rattle.rules.specs.declared.Refusal.{Refusal}
 use Rattle.rules.specs.declared.Refusal.the-variants.{Sizes, Lengths, Footprint, Room}
 use Rattle.rules.specs.declared.Answer.the-variants.{Done, Refused}
+use Rattle.rules.specs.declared.Checked.the-variants as checked
 use Rattle.rules.proofs.Good.{good-sizes, Accepted, good-footprint}
 use Rattle.tables.specs.First.{firstOr}
 use Rattle.tables.proofs.Verdicts.{pass-not-refuse, judge-pass}
@@ -141,3 +142,19 @@ module _ (g : Grid) (reg starts entries : List ℕ) where
         → (paperAnswer (Done need), s, x) ≡ builds g reg starts entries
     unfolding builds
     build-done h s x es ex = rw (room-judged, le-ltb (length entries) need h, is, es, ex)
+
+-- ---- the check
+
+module _ (g : Grid) (reg starts entries : List ℕ) where
+  pub check-refused : (r : Refusal) → registerVerdict g reg starts pass ≡ refuse r → paperChecked (checked.Refused r) ≡ checks g reg starts entries
+  unfolding checks paperChecked
+  check-refused r e = rw e
+
+  module _ (passed : registerVerdict g reg starts pass ≡ pass) where
+    pub check-yes : isBuilt g reg starts entries ≡ true → paperChecked checked.Yes ≡ checks g reg starts entries
+    unfolding checks
+    check-yes e = rw (passed, e)
+
+    pub check-no : isBuilt g reg starts entries ≡ false → paperChecked checked.No ≡ checks g reg starts entries
+    unfolding checks
+    check-no e = rw (passed, e)

@@ -1,13 +1,15 @@
-// The index, built in linear time with no memory but the lent tables.
+// The index: built and checked in linear time, with no memory but the lent tables.
 
+mod compare; // compare.rt: the one pass of the check
 mod sort; // sort.rt: the counting sort of the build
 
 use rules::Answer;
+use rules::Checked;
 use rules::Grid;
 use rules::Refusal;
 ghost use mathlib.Core.Path.{_≡_};
-ghost use Rattle.rules.specs.Refusals.{pass, paperAnswer};
-ghost use Rattle.rules.specs.Build.{registerVerdict, builds};
+ghost use Rattle.rules.specs.Refusals.{pass, paperAnswer, paperChecked};
+ghost use Rattle.rules.specs.Build.{registerVerdict, builds, checks};
 ghost use Rattle.index.specs.Judged.{verdict};
 
 // The tiles that a rectangle touches: columns c0..=c1 and rows r0..=r1.
@@ -63,4 +65,20 @@ pub fn build(g: Grid, reg: &[u32], starts: &mut [u32], entries: &mut [u32]) -> A
     }
     sort::fill(g, reg, starts, entries);
     Answer::Done(need as u64)
+}
+
+// Whether the starts and the counted entries are what the build leaves; entries past the count are not looked at.
+pub fn check(g: Grid, reg: &[u32], starts: &[u32], entries: &[u32]) -> Checked
+    ensures { λ r. ⌜ paperChecked r ≡ checks g (now (reg .entry)) (now (starts .entry)) (now (entries .entry)) ⌝ }
+{
+    match judge(g, reg, starts) {
+        Judged::Refused(why) => {
+            return Checked::Refused(why);
+        }
+        Judged::Passed => {}
+    }
+    if compare::is_built(g, reg, starts, entries) {
+        return Checked::Yes;
+    }
+    Checked::No
 }

@@ -21,7 +21,7 @@ use Rattle.rules.proofs.Good.{good-sizes}
 use Rattle.rules.proofs.JoinCode.{neighbours-by-position, run-pairs-by-two}
 use Rattle.grid.specs.Places.{position, isOn}
 use Rattle.join.specs.Keeping.{Kept, kept}
-use Rattle.join.specs.Levels.{positionOf, onePair, entryPairs, runsPairs, markedPairs, positionPairs, aroundPairs}
+use Rattle.join.specs.Levels.{positionOf, onePair, entryPairs, runsPairs, markedPairs, pairsAt, aroundPairs}
 
 -- ---- two runs
 
@@ -51,6 +51,21 @@ empty-pairs g regR ts r t u a [] h b = go (markedIn g t u a b)
     go false = refl
 empty-pairs g regR ts r t u a (i ∷ l) h b = absurd (not-suc-le-zero {n = 0} (omega arith))
 
+-- nor has one of S
+pub no-entries : (g : Grid) (regR : List ℕ) (ts : Tables) (r t u a : ℕ) (l : List ℕ) (b m : ℕ) (ls : List ℕ)
+    → m ≡ runNo u b → ls ≡ runAt ts m → length ls ≡ 0 → markedPairs g regR ts r t u a l b ≡ []
+unfolding markedPairs runsPairs entryPairs
+no-entries g regR ts r t u a l b m ls em el h =
+    rw (← em, ← el) (ap (only (markedIn g t u a b)) (each-empty _ l (λ i. none i ls h)) ∙ go (markedIn g t u a b))
+  where
+    none : (i : ℕ) (ls : List ℕ) → length ls ≡ 0 → each (onePair g regR (ts .reg) r (runNo t a) m i) ls ≡ []
+    none i [] h = refl
+    none i (j ∷ ls) h = absurd (not-suc-le-zero {n = 0} (omega arith))
+
+    go : (x : Bool) → only {A = Pair} x [] ≡ []
+    go true = refl
+    go false = refl
+
 -- ---- a class of R's tile with S's tile
 
 module _ (g : Grid) (sizes : badSizes g ≡ false) (tr ts : Tables) (r t u a : ℕ) (l : List ℕ) (e : l ≡ runAt tr (runNo t a)) where
@@ -68,8 +83,8 @@ module _ (g : Grid) (sizes : badSizes g ≡ false) (tr ts : Tables) (r t u a : �
 -- ---- R's tile with S's tiles
 
 module _ (g : Grid) (sizes : badSizes g ≡ false) (tr ts : Tables) (r : ℕ) where
-  pub around-pairs : (t : ℕ) → t < tileCount g → aroundPairs g tr ts r t ≡ each (positionPairs g tr ts r t) (upTo 9)
-  unfolding aroundPairs positionPairs
+  pub around-pairs : (t : ℕ) → t < tileCount g → aroundPairs g tr ts r t ≡ each (pairsAt g tr ts r t) (upTo 9)
+  unfolding aroundPairs pairsAt
   around-pairs t h =
       ap (each (tilePairs g tr ts r t)) (neighbours-by-position g (good-sizes g sizes) t h)
       ∙ each-each (tilePairs g tr ts r t) (λ p. only (hasTile g t p) (tileAt g t p ∷ [])) (upTo 9)
@@ -84,13 +99,13 @@ unfolding joinPairs aroundPairs tiles
 join-pairs g tr ts r = refl
 
 module _ (g : Grid) (tr ts : Tables) (r t p : ℕ) where
-  pub position-pairs : (u : ℕ) → hasTile g t p ≡ true → u ≡ tileAt g t p → positionPairs g tr ts r t p ≡ tilePairs g tr ts r t u
-  unfolding positionPairs
-  position-pairs u e f = rw (e, f)
+  pub pairs-at : (u : ℕ) → hasTile g t p ≡ true → u ≡ tileAt g t p → pairsAt g tr ts r t p ≡ tilePairs g tr ts r t u
+  unfolding pairsAt
+  pairs-at u e f = rw (e, f)
 
-  pub no-position-pairs : hasTile g t p ≡ false → positionPairs g tr ts r t p ≡ []
-  unfolding positionPairs
-  no-position-pairs e = rw e
+  pub no-pairs-at : hasTile g t p ≡ false → pairsAt g tr ts r t p ≡ []
+  unfolding pairsAt
+  no-pairs-at e = rw e
 
 -- ---- nothing is kept of no pairs
 

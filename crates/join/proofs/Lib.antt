@@ -5,5 +5,6 @@ pub mod Around
 pub mod Listing
 pub mod Sides
 pub mod Levels
+pub mod Boxing
 pub mod Writing
 pub mod Verdicts

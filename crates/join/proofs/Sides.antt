@@ -1,15 +1,14 @@
 -- What a side that passed every judge gives: its runs' ends stand in the starts and are good, and its entries may be named. Assumes nothing.
 use mathlib.Core.Path.{_≡_}
-use mathlib.Core.Bool.{Bool, true, false, not}
-use mathlib.Core.List.{List, [], _∷_}
-use Prim.Native.Nat.{ℕ, zero, suc, _+_, _≤_, _<_}
-use native.Mathlib.Nat.{not-suc-le-zero}
+use mathlib.Core.Bool.{true, false, not}
+use mathlib.Core.List.{List}
+use Prim.Native.Nat.{ℕ, _+_, _≤_, _<_}
 use native.Mathlib.Omega.{arith}
 use lib.ListN.{length, getD}
 use borrow.Author.Tests.{not-true}
-use Rattle.laws.specs.Lists.{all}
 use Rattle.laws.proofs.Tests.{fst-true, snd-true, neither}
 use Rattle.laws.proofs.Computed.{all-below}
+use Rattle.laws.proofs.Passing.{all-at}
 use Rattle.rules.specs.Sizes.{badSizes, tileCount}
 use Rattle.rules.specs.Register.{badEntry, badRegister}
 use Rattle.rules.specs.Tables.{Tables, badLengths, badStarts, badEnds, runNo, runs, runStart, runEnd, runAt, goodRun, goodRuns}
@@ -18,11 +17,6 @@ use Rattle.rules.proofs.Good.{good-sizes}
 use Rattle.grid.proofs.Bounds.{square-most}
 use Rattle.join.specs.Levels.{goodEntries, Sound}
 use Rattle.join.proofs.Judging.{starts-length}
-
-all-at : (p : ℕ → Bool) (l : List ℕ) (i : ℕ) → i < length l → all p l ≡ true → p (getD l i 0) ≡ true
-all-at p [] i h e = absurd (not-suc-le-zero h)
-all-at p (x ∷ l) zero h e = fst-true (p x) _ e
-all-at p (x ∷ l) (suc i) h e = all-at p l i (omega arith) (snd-true (p x) _ e)
 
 pub entry-good : (g : Grid) (reg l : List ℕ) (i : ℕ) → i < length l → goodEntries g reg l ≡ true → badEntry g reg (getD l i 0) ≡ false
 entry-good g reg l i h e = not-true _ (all-at (λ i. not (badEntry g reg i)) l i h e)

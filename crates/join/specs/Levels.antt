@@ -53,8 +53,8 @@ unfoldable pub markedPairs : Grid → List ℕ → Tables → ℕ → ℕ → �
 markedPairs g regR ts r t u a l b = only (markedIn g t u a b) (runsPairs g regR (ts .reg) r (runNo t a) (runNo u b) l (runAt ts (runNo u b)))
 
 -- R's tile t with S's tile at position p from it, if there is one
-unfoldable pub positionPairs : Grid → Tables → Tables → ℕ → ℕ → ℕ → List Pair
-positionPairs g tr ts r t p = only (hasTile g t p) (tilePairs g tr ts r t (tileAt g t p))
+unfoldable pub pairsAt : Grid → Tables → Tables → ℕ → ℕ → ℕ → List Pair
+pairsAt g tr ts r t p = only (hasTile g t p) (tilePairs g tr ts r t (tileAt g t p))
 
 -- R's tile t with all of S's that are visited
 unfoldable pub aroundPairs : Grid → Tables → Tables → ℕ → ℕ → List Pair

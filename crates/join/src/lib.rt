@@ -2,7 +2,8 @@
 
 mod judge; // judge.rt: every run and entry of a side
 mod keep; // keep.rt: pairs counted, and laid where they find room
-mod near; // near.rt: whether a pair is listed
+mod near; // near.rt: whether a pair is listed, and when pairs need not be looked at
+mod boxes; // boxes.rt: boxes around the footprints of a run
 mod places; // places.rt: S's tile around R's, and runs by their numbers
 mod pairs; // pairs.rt: the loops over tiles, classes and numbers
 

@@ -1,4 +1,4 @@
-// Whether a pair of footprints, met in two joined runs, is listed.
+// Whether a pair of footprints, met in two joined runs, is listed, and when this is known without looking at it.
 use rules::Grid;
 use rules::Rect;
 ghost use mathlib.Core.Path.{_≡_};
@@ -8,6 +8,7 @@ ghost use Rattle.rules.specs.Distance.{within};
 ghost use Rattle.rules.specs.Register.{badEntry};
 ghost use Rattle.rules.specs.Join.{lists};
 ghost use Rattle.grid.specs.Tiles.{Near};
+ghost use Rattle.join.specs.Boxes.{byDistance, apart as apartIs};
 
 fn wide(x: u32) -> u64
     ensures { λ r. ⌜ r ≡ x ⌝ }
@@ -40,4 +41,22 @@ pub(crate) fn listed(
     let a = tables::footprint(g, reg_r, i as usize);
     let b = tables::footprint(g, reg_s, j as usize);
     near(r, a, b)
+}
+
+// Whether distance alone decides which pairs of the joined runs k and m are listed.
+fn by_distance(g: Grid, r: u32, k: usize, m: usize) -> bool
+    ensures { λ c. ⌜ c ≡ byDistance g r k m ⌝ }
+{
+    true
+}
+
+// Whether no pair of the joined runs k and m is listed whose footprints lie in two boxes.
+pub(crate) fn apart(g: Grid, r: u32, k: usize, m: usize, a: Rect, b: Rect) -> bool
+    requires { ⌜ Near a × Near b ⌝ }
+    ensures { λ c. ⌜ c ≡ apartIs g r k m a b ⌝ }
+{
+    if by_distance(g, r, k, m) {
+        return !near(r, a, b);
+    }
+    false
 }

@@ -1,5 +1,7 @@
-// The loops of a join, from the outermost to one pair. Each keeps the pairs of its level behind those found before, and returns how many there are then.
+// The loops of a join, from one pair up to all tiles. Each keeps the pairs of its level behind those found before, and returns how many there are then.
+use super::boxes::box_of;
 use super::keep::keep;
+use super::near::apart;
 use super::near::listed;
 use super::places::has_tile;
 use super::places::position;
@@ -7,6 +9,7 @@ use super::places::run_no;
 use super::places::run_part;
 use super::places::tile_at;
 use rules::Grid;
+use rules::Rect;
 ghost use mathlib.Core.Path.{_≡_};
 ghost use mathlib.Core.Bool.{true, false};
 ghost use Prim.Native.Nat.{_+_, _≤_, _<_};
@@ -16,7 +19,8 @@ ghost use Rattle.rules.specs.Register.{badEntry};
 ghost use Rattle.rules.specs.Tables.{tables};
 ghost use Rattle.rules.specs.Join.{classPairs, tilePairs, joinPairs};
 ghost use Rattle.join.specs.Keeping.{state, kept, mostPairs};
-ghost use Rattle.join.specs.Levels.{goodEntries, Sound, Judged, positionOf, onePair, entryPairs, runsPairs, markedPairs, positionPairs, aroundPairs};
+ghost use Rattle.join.specs.Boxes.{Holds};
+ghost use Rattle.join.specs.Levels.{goodEntries, Sound, Judged, positionOf, onePair, entryPairs, runsPairs, markedPairs, pairsAt, aroundPairs};
 
 // R's number i and S's number j, where they are listed.
 fn of_two(
@@ -40,7 +44,7 @@ fn of_two(
     found
 }
 
-// R's number i with the numbers of a run of S.
+// R's number i with the numbers of a run of S, which lie in box_s.
 fn of_entry(
     g: Grid,
     reg_r: &[u32],
@@ -50,12 +54,17 @@ fn of_entry(
     m: usize,
     i: u32,
     run_s: &[u32],
+    box_s: Rect,
     found: u64,
     out: &mut [u32],
 ) -> u64
-    requires { ⌜ (badSizes g ≡ false) × (badEntry g (now «reg_r») i ≡ false) × (goodEntries g (now «reg_s») (now «run_s») ≡ true) × (found + length (entryPairs g (now «reg_r») (now «reg_s») r k m i (now «run_s»)) ≤ mostPairs) ⌝ }
+    requires { ⌜ (badSizes g ≡ false) × (badEntry g (now «reg_r») i ≡ false) × (goodEntries g (now «reg_s») (now «run_s») ≡ true) × Holds g (now «reg_s») «box_s» (now «run_s») × (found + length (entryPairs g (now «reg_r») (now «reg_s») r k m i (now «run_s»)) ≤ mostPairs) ⌝ }
     ensures { λ c. ⌜ state c (now (out .exit)) ≡ kept (state found (now (out .entry))) (entryPairs g (now («reg_r» .entry)) (now («reg_s» .entry)) r k m i (now («run_s» .entry))) ⌝ }
 {
+    let a = tables::footprint(g, reg_r, i as usize);
+    if apart(g, r, k, m, a, box_s) {
+        return found;
+    }
     let mut pairs = found;
     let mut at = 0;
     while at < run_s.len() {
@@ -65,7 +74,7 @@ fn of_entry(
     pairs
 }
 
-// The numbers of a run of R with those of a run of S.
+// The numbers of a run of R, which lie in box_r, with those of a run of S that has some.
 fn of_runs(
     g: Grid,
     reg_r: &[u32],
@@ -74,27 +83,45 @@ fn of_runs(
     k: usize,
     m: usize,
     run_r: &[u32],
+    box_r: Rect,
     run_s: &[u32],
     found: u64,
     out: &mut [u32],
 ) -> u64
-    requires { ⌜ (badSizes g ≡ false) × (goodEntries g (now «reg_r») (now «run_r») ≡ true) × (goodEntries g (now «reg_s») (now «run_s») ≡ true) × (found + length (runsPairs g (now «reg_r») (now «reg_s») r k m (now «run_r») (now «run_s»)) ≤ mostPairs) ⌝ }
+    requires { ⌜ (badSizes g ≡ false) × (goodEntries g (now «reg_r») (now «run_r») ≡ true) × Holds g (now «reg_r») «box_r» (now «run_r») × (goodEntries g (now «reg_s») (now «run_s») ≡ true) × (0 < length (now «run_s»)) × (found + length (runsPairs g (now «reg_r») (now «reg_s») r k m (now «run_r») (now «run_s»)) ≤ mostPairs) ⌝ }
     ensures { λ c. ⌜ state c (now (out .exit)) ≡ kept (state found (now (out .entry))) (runsPairs g (now («reg_r» .entry)) (now («reg_s» .entry)) r k m (now («run_r» .entry)) (now («run_s» .entry))) ⌝ }
 {
+    let box_s = box_of(g, reg_s, run_s);
+    if apart(g, r, k, m, box_r, box_s) {
+        return found;
+    }
     let mut pairs = found;
     let mut at = 0;
     while at < run_r.len() {
-        pairs = of_entry(g, reg_r, reg_s, r, k, m, run_r[at], run_s, pairs, out);
+        pairs = of_entry(
+            g,
+            reg_r,
+            reg_s,
+            r,
+            k,
+            m,
+            run_r[at],
+            run_s,
+            box_s,
+            pairs,
+            out,
+        );
         at += 1;
     }
     pairs
 }
 
-// R's run of class a in tile t with S's run of class b in tile u, which lies at position p, where the two are joined.
+// R's run of class a in tile t, whose numbers lie in box_r, with S's run of class b in tile u, which lies at position p, where the two are joined.
 fn of_marked(
     g: Grid,
     reg_r: &[u32],
     run_r: &[u32],
+    box_r: Rect,
     reg_s: &[u32],
     starts_s: &[u32],
     entries_s: &[u32],
@@ -107,7 +134,7 @@ fn of_marked(
     found: u64,
     out: &mut [u32],
 ) -> u64
-    requires { ⌜ (badSizes g ≡ false) × (goodEntries g (now «reg_r») (now «run_r») ≡ true) × Sound g (tables (now «reg_s») (now «starts_s») (now «entries_s»)) × (t < tileCount g) × (u < tileCount g) × (p ≡ positionOf g t u) × (a < 16) × (b < 16) × (found + length (markedPairs g (now «reg_r») (tables (now «reg_s») (now «starts_s») (now «entries_s»)) r t u a (now «run_r») b) ≤ mostPairs) ⌝ }
+    requires { ⌜ (badSizes g ≡ false) × (goodEntries g (now «reg_r») (now «run_r») ≡ true) × Holds g (now «reg_r») «box_r» (now «run_r») × Sound g (tables (now «reg_s») (now «starts_s») (now «entries_s»)) × (t < tileCount g) × (u < tileCount g) × (p ≡ positionOf g t u) × (a < 16) × (b < 16) × (found + length (markedPairs g (now «reg_r») (tables (now «reg_s») (now «starts_s») (now «entries_s»)) r t u a (now «run_r») b) ≤ mostPairs) ⌝ }
     ensures { λ c. ⌜ state c (now (out .exit)) ≡ kept (state found (now (out .entry))) (markedPairs g (now («reg_r» .entry)) (tables (now («reg_s» .entry)) (now («starts_s» .entry)) (now («entries_s» .entry))) r t u a (now («run_r» .entry)) b) ⌝ }
 {
     if !grid::is_on(grid::marks::marks(a, b), p) {
@@ -115,18 +142,11 @@ fn of_marked(
     }
     let m = run_no(u, b);
     let run_s = run_part(starts_s, entries_s, m);
-    of_runs(
-        g,
-        reg_r,
-        reg_s,
-        r,
-        run_no(t, a),
-        m,
-        run_r,
-        run_s,
-        found,
-        out,
-    )
+    if run_s.len() == 0 {
+        return found;
+    }
+    let k = run_no(t, a);
+    of_runs(g, reg_r, reg_s, r, k, m, run_r, box_r, run_s, found, out)
 }
 
 // R's run of class a in tile t with all of S's tile u, which lies at position p.
@@ -153,6 +173,7 @@ fn of_class(
     if run_r.len() == 0 {
         return found;
     }
+    let box_r = box_of(g, reg_r, run_r);
     let mut pairs = found;
     let mut b = 0;
     while b < 16 {
@@ -160,6 +181,7 @@ fn of_class(
             g,
             reg_r,
             run_r,
+            box_r,
             reg_s,
             starts_s,
             entries_s,
@@ -235,8 +257,8 @@ fn of_position(
     found: u64,
     out: &mut [u32],
 ) -> u64
-    requires { ⌜ Judged g (tables (now «reg_r») (now «starts_r») (now «entries_r»)) (tables (now «reg_s») (now «starts_s») (now «entries_s»)) × (t < tileCount g) × (p < 9) × (found + length (positionPairs g (tables (now «reg_r») (now «starts_r») (now «entries_r»)) (tables (now «reg_s») (now «starts_s») (now «entries_s»)) r t p) ≤ mostPairs) ⌝ }
-    ensures { λ c. ⌜ state c (now (out .exit)) ≡ kept (state found (now (out .entry))) (positionPairs g (tables (now («reg_r» .entry)) (now («starts_r» .entry)) (now («entries_r» .entry))) (tables (now («reg_s» .entry)) (now («starts_s» .entry)) (now («entries_s» .entry))) r t p) ⌝ }
+    requires { ⌜ Judged g (tables (now «reg_r») (now «starts_r») (now «entries_r»)) (tables (now «reg_s») (now «starts_s») (now «entries_s»)) × (t < tileCount g) × (p < 9) × (found + length (pairsAt g (tables (now «reg_r») (now «starts_r») (now «entries_r»)) (tables (now «reg_s») (now «starts_s») (now «entries_s»)) r t p) ≤ mostPairs) ⌝ }
+    ensures { λ c. ⌜ state c (now (out .exit)) ≡ kept (state found (now (out .entry))) (pairsAt g (tables (now («reg_r» .entry)) (now («starts_r» .entry)) (now («entries_r» .entry))) (tables (now («reg_s» .entry)) (now («starts_s» .entry)) (now («entries_s» .entry))) r t p) ⌝ }
 {
     if !has_tile(g, t, p) {
         return found;

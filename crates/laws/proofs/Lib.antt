@@ -15,6 +15,9 @@ pub mod Gather
 pub mod Filters
 pub mod Computed
 pub mod Remaining
+pub mod Passing
+pub mod Parts
+pub mod Stores
 pub mod Lexicographic
 pub mod Choices
 pub mod Totals
@@ -23,3 +26,7 @@ pub mod Maps
 pub mod Pairs
 pub mod Rows
 pub mod Lengths
+pub mod Boxes
+pub mod Rising
+pub mod Forced
+pub mod Scans

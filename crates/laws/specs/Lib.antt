@@ -1,3 +1,4 @@
 pub mod Lists
 pub mod Lines
 pub mod Pairs
+pub mod Rising

@@ -1,4 +1,6 @@
 // The calls: each reads its parameters, lends them as tables of exactly their lengths, and puts the answer.
+use crate::walks::ask;
+use crate::walks::start;
 use ports::Told;
 use rules::Ends;
 use rules::Grid;
@@ -13,7 +15,7 @@ use vectors::output::put_words;
 ghost use Rattle.io.specs.Counts.{Counts};
 
 // How many numbers a table has at most.
-const MOST: usize = 4096;
+pub(crate) const MOST: usize = 4096;
 
 // How many numbers the register, the starts and the entries have.
 struct Lengths {
@@ -43,7 +45,7 @@ fn next_tables(
 }
 
 // The refusal's number and the value.
-fn put_told(out: &mut [u8], waiting: &mut usize, told: Told) {
+pub(crate) fn put_told(out: &mut [u8], waiting: &mut usize, told: Told) {
     put(out, waiting, told.number as u64);
     put(out, waiting, told.value);
 }
@@ -65,6 +67,73 @@ fn build(
     put_told(out, waiting, told);
     put_words(out, waiting, starts);
     put_words(out, waiting, entries);
+}
+
+// 2 check: then nothing.
+fn check(
+    g: Grid,
+    reg: &[u32],
+    starts: &[u32],
+    entries: &[u32],
+    place: &mut Place,
+    out: &mut [u8],
+    waiting: &mut usize,
+) {
+    if !is_open(*place) {
+        return;
+    }
+    let told = ports::told_checked(index::check(g, reg, starts, entries));
+    put_told(out, waiting, told);
+}
+
+fn answer_search(
+    g: Grid,
+    reg: &[u32],
+    starts: &[u32],
+    entries: &[u32],
+    x: u32,
+    y: u32,
+    r: u32,
+    hits: &mut [u32],
+    out: &mut [u8],
+    waiting: &mut usize,
+) {
+    let told = ports::told_answer(search::search(g, reg, starts, entries, x, y, r, hits));
+    put_told(out, waiting, told);
+    put_words(out, waiting, hits);
+}
+
+// 4 search: x y r out; then out.
+fn search(
+    g: Grid,
+    reg: &[u32],
+    starts: &[u32],
+    entries: &[u32],
+    buffer: &mut [u8],
+    place: &mut Place,
+    out: &mut [u8],
+    waiting: &mut usize,
+) {
+    let mut hits = [0u32; MOST];
+    let x = next_word(buffer, place);
+    let y = next_word(buffer, place);
+    let r = next_word(buffer, place);
+    let hits_length = next_words(buffer, place, &mut hits);
+    if !is_open(*place) {
+        return;
+    }
+    answer_search(
+        g,
+        reg,
+        starts,
+        entries,
+        x,
+        y,
+        r,
+        &mut hits[..hits_length],
+        out,
+        waiting,
+    );
 }
 
 fn answer_run(
@@ -190,6 +259,10 @@ fn call_on(
 ) {
     match code {
         1 => build(g, reg, starts, entries, place, out, waiting),
+        2 => check(g, reg, starts, entries, place, out, waiting),
+        4 => search(g, reg, starts, entries, buffer, place, out, waiting),
+        5 => start(g, reg, starts, entries, buffer, place, out, waiting),
+        6 => ask(g, reg, starts, entries, buffer, place, out, waiting),
         7 => join(g, reg, starts, entries, buffer, place, out, waiting),
         _ => {
             shut(place, BROKEN);

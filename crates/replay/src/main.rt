@@ -3,6 +3,7 @@
 // and the value, then every lent output table and state as it is afterwards.
 
 mod calls; // calls.rt: the parameters of each call read, and its answer put
+mod walks; // walks.rt: the same for a start and an ask
 
 use calls::call;
 use calls::run;

@@ -56,7 +56,7 @@ pub record GoodRect (g : Grid) (a : Rect) : Type 0 where
   pub in-x : GoodSpan g (a .x)
   pub in-y : GoodSpan g (a .y)
 
-good-span : (g : Grid) (s : Span) → badSpan g s ≡ false → GoodSpan g s
+pub good-span : (g : Grid) (s : Span) → badSpan g s ≡ false → GoodSpan g s
 unfolding badSpan offGrid
 good-span g s e =
     let a = neither (ltb (s .hi) (s .lo)) (leb (g .n * g .side) (s .hi)) e in

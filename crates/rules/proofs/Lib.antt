@@ -4,6 +4,7 @@ pub mod Classes
 pub mod Report
 pub mod Built
 pub mod Visits
+pub mod Box
 pub mod Papers
 pub mod Unique
 pub mod JoinSpans
@@ -24,3 +25,9 @@ pub mod Steps
 pub mod GroupLines
 pub mod InRange
 pub mod Weights
+pub mod Texts
+pub mod Counted
+pub mod Decimals
+pub mod Lengths
+pub mod Written
+pub mod Grammar

@@ -7,6 +7,7 @@ pub mod Tables
 pub mod Refusals
 pub mod Build
 pub mod Search
+pub mod Box
 pub mod Join
 pub mod JoinSteps
 pub mod Front
@@ -14,4 +15,5 @@ pub mod Merge
 pub mod Walk
 pub mod Lines
 pub mod Waits
+pub mod Text
 pub mod Yard

@@ -15,7 +15,8 @@ ghost use Rattle.rules.specs.Refusals.{paperEnds};
 ghost use Rattle.rules.specs.Build.{badRun, runEnds, handsBack};
 ghost use Rattle.tables.specs.First.{firstOr};
 
-fn wide(x: u32) -> usize
+// A number as a count or a place.
+pub fn wide(x: u32) -> usize
     ensures { λ r. ⌜ r ≡ x ⌝ }
 {
     x as usize

@@ -5,7 +5,7 @@ use mathlib.Core.Bool.{not}
 use Prim.Native.Nat.{_≤_, _-_}
 use lib.ListN.{length}
 use Rattle.rules.specs.Register.{badEntry}
-use Rattle.join.proofs.Judging.{LeftOf, left-bad, left-good, left-none}
+use Rattle.laws.proofs.Passing.{LeftOf, left-bad, left-good, left-none}
 use native.Mathlib.Omega.{arith}
 use Rattle.join.proofs.judge.bad_entries.Statement.{statement}
 use Rattle.join.proofs.judge.bad_entries.Tie as tie
@@ -29,7 +29,9 @@ bad-entry-requires : tie.Need-bad-entry-requires Inv-loop μ-loop
 bad-entry-requires c κs = search needs
 
 returns : tie.Need-returns Inv-loop μ-loop
-returns c = left-bad (λ i. not (badEntry (c .before .before .before .before .before .before .before .args .g) (c .before .before .before .before .before .before .before .args .reg .now) i)) (c .before .before .before .before .before .before .before .args .run .now) (c .before .before .before .before .loop .at) (c .before .before .before .loop-test .taken) (c .before .before .before .before .loop .inv .1) (ap not (sym (c .before .bad-entry .ensures) ∙ c .if1 .taken))
+returns c =
+    let s = c .before .before .before .before .before .before .before in
+    left-bad (λ i. not (badEntry (s .args .g) (s .args .reg .now) i)) (s .args .run .now) (c .before .before .before .before .loop .at) (c .before .before .before .loop-test .taken) (c .before .before .before .before .loop .inv .1) (ap not (sym (c .before .bad-entry .ensures) ∙ c .if1 .taken))
 
 add-at : tie.Need-add-at Inv-loop μ-loop
 add-at c = omega arith
@@ -38,10 +40,14 @@ loop-less : tie.Need-loop-less Inv-loop μ-loop
 loop-less c = omega arith
 
 loop-again : tie.Need-loop-again Inv-loop μ-loop
-loop-again c = (omega arith, left-good (λ i. not (badEntry (c .before .before .before .before .before .before .before .args .g) (c .before .before .before .before .before .before .before .args .reg .now) i)) (c .before .before .before .before .before .before .before .args .run .now) (c .before .before .before .before .loop .at) (c .before .before .before .loop-test .taken) (c .before .before .before .before .loop .inv .1) (ap not (sym (c .before .bad-entry .ensures) ∙ c .if1 .left)))
+loop-again c =
+    let s = c .before .before .before .before .before .before .before in
+    (omega arith, left-good (λ i. not (badEntry (s .args .g) (s .args .reg .now) i)) (s .args .run .now) (c .before .before .before .before .loop .at) (c .before .before .before .loop-test .taken) (c .before .before .before .before .loop .inv .1) (ap not (sym (c .before .bad-entry .ensures) ∙ c .if1 .left)))
 
 returns-2 : tie.Need-returns-2 Inv-loop μ-loop
-returns-2 c = left-none (λ i. not (badEntry (c .before .before .before .before .args .g) (c .before .before .before .before .args .reg .now) i)) (c .before .before .before .before .args .run .now) (c .before .loop .at) (omega (arith, c .loop-test .left)) (c .before .loop .inv .1)
+returns-2 c =
+    let s = c .before .before .before .before in
+    left-none (λ i. not (badEntry (s .args .g) (s .args .reg .now) i)) (s .args .run .now) (c .before .loop .at) (omega (arith, c .loop-test .left)) (c .before .loop .inv .1)
 
 pub bad-entries-spec : {M : Type 1} → statement M
 bad-entries-spec =

@@ -39,7 +39,9 @@ bad-ends-requires c κs = search needs
 
 returns : tie.Need-returns
 unfolding runStart runEnd
-returns c = ends-bad (c .before .before .before .before .before .before .before .before .before .args .g) (c .before .before .before .before .before .before .before .before .before .args .reg .now) (c .before .before .before .before .before .before .before .before .before .args .starts .now) (c .before .before .before .before .before .before .before .before .before .args .entries .now) (c .before .before .before .before .before .before .before .before .before .args .k) _ _ (c .before .before .before .before .wide .ensures) (c .before .before .wide2 .ensures) (sym (c .before .bad-ends .ensures) ∙ c .if1 .taken)
+returns c =
+    let s = c .before .before .before .before .before .before .before .before .before in
+    ends-bad (s .args .g) (s .args .reg .now) (s .args .starts .now) (s .args .entries .now) (s .args .k) _ _ (c .before .before .before .before .wide .ensures) (c .before .before .wide2 .ensures) (sym (c .before .bad-ends .ensures) ∙ c .if1 .taken)
 
 mul-bad-entries : tie.Need-mul-bad-entries
 mul-bad-entries c = omega (arith, good (c))
@@ -58,7 +60,9 @@ bad-entries-requires c κs = search needs
 
 returns-2 : tie.Need-returns-2
 unfolding runStart runEnd
-returns-2 c = c .bad-entries .ensures ∙ ends-good (c .before .before .before .before .before .before .before .before .before .before .before .args .g) (c .before .before .before .before .before .before .before .before .before .before .before .args .reg .now) (c .before .before .before .before .before .before .before .before .before .before .before .args .starts .now) (c .before .before .before .before .before .before .before .before .before .before .before .args .entries .now) (c .before .before .before .before .before .before .before .before .before .before .before .args .k) _ _ (c .before .before .before .before .before .before .wide .ensures) (c .before .before .before .before .wide2 .ensures) (sym (c .before .before .before .bad-ends .ensures) ∙ c .before .before .if1 .left)
+returns-2 c =
+    let s = c .before .before .before .before .before .before .before .before .before .before .before in
+    c .bad-entries .ensures ∙ ends-good (s .args .g) (s .args .reg .now) (s .args .starts .now) (s .args .entries .now) (s .args .k) _ _ (c .before .before .before .before .before .before .wide .ensures) (c .before .before .before .before .wide2 .ensures) (sym (c .before .before .before .bad-ends .ensures) ∙ c .before .before .if1 .left)
 
 pub bad-run-spec : {M : Type 1} → statement M
 bad-run-spec =

@@ -4,7 +4,8 @@ use Prim.Native.Nat.{_+_, _-_}
 use lib.ListN.{length}
 use borrow.Author.Tests.{not-true, not-false}
 use Rattle.rules.specs.Tables.{tables, runs as runsOf, goodRun, goodRuns}
-use Rattle.join.proofs.Judging.{LeftBelow, below-start, below-bad, below-good, below-none, starts-length}
+use Rattle.laws.proofs.Passing.{LeftBelow, below-start, below-bad, below-good, below-none}
+use Rattle.join.proofs.Judging.{starts-length}
 use native.Mathlib.Omega.{arith}
 use Rattle.join.proofs.judge.bad_side.Statement.{statement}
 use Rattle.join.proofs.judge.bad_side.Tie as tie

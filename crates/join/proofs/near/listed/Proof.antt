@@ -13,7 +13,10 @@ footprint-requires-2 : tie.Need-footprint-requires-2
 footprint-requires-2 c κs = named-below (c .before .before .before .args .g) (c .before .before .before .args .reg-s .now) (c .before .before .before .args .j) (c .before .before .before .pre .2)
 
 near-requires : tie.Need-near-requires
-near-requires c κs = rw (c .before .footprint .ensures, c .footprint2 .ensures) (named-near (c .before .before .before .before .args .g) (c .before .before .before .before .args .reg-r .now) (c .before .before .before .before .args .i) (c .before .before .before .before .pre .0) (c .before .before .before .before .pre .1), named-near (c .before .before .before .before .args .g) (c .before .before .before .before .args .reg-s .now) (c .before .before .before .before .args .j) (c .before .before .before .before .pre .0) (c .before .before .before .before .pre .2))
+near-requires c κs =
+    let s = c .before .before .before .before in
+    rw (c .before .footprint .ensures, c .footprint2 .ensures)
+    (named-near (s .args .g) (s .args .reg-r .now) (s .args .i) (s .pre .0) (s .pre .1), named-near (s .args .g) (s .args .reg-s .now) (s .args .j) (s .pre .0) (s .pre .2))
 
 returns : tie.Need-returns
 unfolding lists

@@ -1,10 +1,14 @@
--- `join::pairs::of_class` meets its contract: S's classes one after the other. Assumes nothing.
+-- `join::pairs::of_class` meets its contract: S's classes one after the other, unless R's run is empty. Assumes nothing.
 use mathlib.Core.Path.{_≡_, sym, ap, _∙_}
+use mathlib.Core.Bool.{true}
+use mathlib.Core.List.{List}
 use Prim.Native.Nat.{ℕ, _-_, _<_}
-use Rattle.join.specs.Keeping.{state, kept, mostPairs}
+use Rattle.laws.specs.Lists.{upTo, each}
+use Rattle.join.specs.Keeping.{Kept, state, kept, mostPairs}
 use Rattle.join.proofs.Loops.{OverRange, range-start, range-step, range-few, range-size, range-end}
-use Rattle.rules.specs.Tables.{tables, runs, runAt}
-use Rattle.join.specs.Levels.{markedPairs}
+use Rattle.rules.specs.Tables.{Tables, tables, runNo, runs, runAt}
+use Rattle.rules.specs.Join.{Pair, classPairs}
+use Rattle.join.specs.Levels.{goodEntries, markedPairs}
 use Rattle.join.proofs.Sides.{tiles-most, run-below, run-stands, run-ends-good, run-entries-good}
 use Rattle.join.proofs.Levels.{class-pairs, class-empty, keeps-none}
 use native.Mathlib.Omega.{arith}
@@ -12,36 +16,82 @@ use Rattle.join.proofs.pairs.of_class.Statement.{statement}
 use Rattle.join.proofs.pairs.of_class.Tie as tie
 
 abbrev Inv-loop : tie.InvT-loop
-Inv-loop g reg-r starts-r entries-r reg-s starts-s entries-s r t u p a found out₀ run-r pairs₀ b₀ out pairs b =
+Inv-loop g reg-r starts-r entries-r reg-s starts-s entries-s r t u p a found out₀ run-r box-r pairs₀ b₀ out pairs b =
     OverRange (markedPairs g reg-r (tables reg-s starts-s entries-s) r t u a run-r) 16 (state found out₀) (state pairs out) b
 
 abbrev μ-loop : tie.MeasureT-loop
-μ-loop g reg-r starts-r entries-r reg-s starts-s entries-s r t u p a found out₀ run-r pairs₀ b₀ out pairs b = 16 - b
+μ-loop g reg-r starts-r entries-r reg-s starts-s entries-s r t u p a found out₀ run-r box-r pairs₀ b₀ out pairs b = 16 - b
 
--- the run of R is one of the grid's
+abbrev side-r : tie.Start Inv-loop μ-loop → Tables
+side-r s = tables (s .args .reg-r .now) (s .args .starts-r .now) (s .args .entries-r .now)
+
+abbrev side-s : tie.Start Inv-loop μ-loop → Tables
+side-s s = tables (s .args .reg-s .now) (s .args .starts-s .now) (s .args .entries-s .now)
+
+-- what was kept before the loop, and what is kept at its head
+abbrev first : tie.Start Inv-loop μ-loop → Kept
+first s = state (s .args .found) (s .args .out .now)
+
+abbrev here : tie.At-loop Inv-loop μ-loop → Kept
+here k = state (k .loop .pairs) (k .loop .out)
+
+-- R's run is one of the grid's, and what was read of it is that run
 on-grid : (c : tie.After-run-no Inv-loop μ-loop) → c .run-no .result < runs (c .before .before .before .before .before .before .before .before .args .g)
-on-grid c = let a = c .before .before .before .before .before .before .before .before .args in rw (c .run-no .ensures) (run-below (a .g) (a .t) (a .a) (c .before .before .before .before .before .before .before .before .pre .1) (c .before .before .before .before .before .before .before .before .pre .4))
+on-grid c = let s = c .before .before .before .before .before .before .before .before in rw (c .run-no .ensures) (run-below (s .args .g) (s .args .t) (s .args .a) (s .pre .1) (s .pre .4))
 
-is-run : (c : tie.After-run-part Inv-loop μ-loop) → c .run-part .result .now ≡ runAt (tables (c .before .before .before .before .before .before .before .before .before .args .reg-r .now) (c .before .before .before .before .before .before .before .before .before .args .starts-r .now) (c .before .before .before .before .before .before .before .before .before .args .entries-r .now)) (c .before .run-no .result)
+is-run : (c : tie.After-run-part Inv-loop μ-loop) → c .run-part .result .now ≡ runAt (side-r (c .before .before .before .before .before .before .before .before .before)) (c .before .run-no .result)
 unfolding runAt
 is-run c = c .run-part .ensures
 
+good-run : (c : tie.After-run-part Inv-loop μ-loop) → goodEntries (c .before .before .before .before .before .before .before .before .before .args .g) (c .before .before .before .before .before .before .before .before .before .args .reg-r .now) (c .run-part .result .now) ≡ true
+good-run c =
+    let s = c .before .before .before .before .before .before .before .before .before in
+    rw (is-run c) (run-entries-good (s .args .g) (side-r s) (s .pre .0 .of-r) (c .before .run-no .result) (on-grid (c .before)))
+
+abbrev class-run : tie.Start Inv-loop μ-loop → List ℕ
+class-run s = runAt (side-r s) (runNo (s .args .t) (s .args .a))
+
+is-class : (c : tie.After-run-part Inv-loop μ-loop) → c .run-part .result .now ≡ class-run (c .before .before .before .before .before .before .before .before .before)
+is-class c = is-run c ∙ ap (runAt (side-r (c .before .before .before .before .before .before .before .before .before))) (c .before .run-no .ensures)
+
+-- the pairs of each turn, and of all of them
+abbrev inner : tie.After-run-part Inv-loop μ-loop → ℕ → List Pair
+inner c = let s = c .before .before .before .before .before .before .before .before .before in markedPairs (s .args .g) (s .args .reg-r .now) (side-s s) (s .args .r) (s .args .t) (s .args .u) (s .args .a) (c .run-part .result .now)
+
+abbrev all-pairs : tie.Start Inv-loop μ-loop → List Pair
+all-pairs s = classPairs (s .args .g) (side-r s) (side-s s) (s .args .r) (s .args .t) (s .args .u) (s .args .a)
+
+whole : (c : tie.After-run-part Inv-loop μ-loop) → all-pairs (c .before .before .before .before .before .before .before .before .before) ≡ each (inner c) (upTo 16)
+whole c =
+    let s = c .before .before .before .before .before .before .before .before .before in
+    class-pairs (s .args .g) (s .pre .0 .sizes) (side-r s) (side-s s) (s .args .r) (s .args .t) (s .args .u) (s .args .a) (c .run-part .result .now) (is-class c)
+
 run-no-requires : tie.Need-run-no-requires Inv-loop μ-loop
-run-no-requires c κs = let h = tiles-most (c .before .before .before .before .before .before .before .args .g) (c .before .before .before .before .before .before .before .pre .0 .sizes) in (omega (arith, h, c .before .before .before .before .before .before .before .pre .1), c .before .before .before .before .before .before .before .pre .4)
+run-no-requires c κs = let s = c .before .before .before .before .before .before .before in (omega (arith, tiles-most (s .args .g) (s .pre .0 .sizes), s .pre .1), s .pre .4)
 
 run-part-requires : tie.Need-run-part-requires Inv-loop μ-loop
-run-part-requires c κs = let a = c .before .before .before .before .before .before .before .before .args in (run-stands (a .g) (tables (a .reg-r .now) (a .starts-r .now) (a .entries-r .now)) (c .before .before .before .before .before .before .before .before .pre .0 .of-r) (c .run-no .result) (on-grid (c)), run-ends-good (a .g) (tables (a .reg-r .now) (a .starts-r .now) (a .entries-r .now)) (c .before .before .before .before .before .before .before .before .pre .0 .of-r) (c .run-no .result) (on-grid (c)))
+run-part-requires c κs =
+    let s = c .before .before .before .before .before .before .before .before in
+    let k = c .run-no .result in
+    (run-stands (s .args .g) (side-r s) (s .pre .0 .of-r) k (on-grid (c)), run-ends-good (s .args .g) (side-r s) (s .pre .0 .of-r) k (on-grid (c)))
 
 returns : tie.Need-returns Inv-loop μ-loop
-returns c = let a = c .before .before .before .before .before .before .before .before .before .before .args in keeps-none (state (a .found) (a .out .now)) (class-empty (a .g) (c .before .before .before .before .before .before .before .before .before .before .pre .0 .sizes) (tables (a .reg-r .now) (a .starts-r .now) (a .entries-r .now)) (tables (a .reg-s .now) (a .starts-s .now) (a .entries-s .now)) (a .r) (a .t) (a .u) (a .a) (c .before .run-part .result .now) (is-run (c .before) ∙ ap (λ (k : ℕ). runAt (tables (a .reg-r .now) (a .starts-r .now) (a .entries-r .now)) k) (c .before .before .run-no .ensures)) (c .if1 .taken))
+returns c =
+    let s = c .before .before .before .before .before .before .before .before .before .before in
+    keeps-none (first s)
+    (class-empty (s .args .g) (s .pre .0 .sizes) (side-r s) (side-s s) (s .args .r) (s .args .t) (s .args .u) (s .args .a) (c .before .run-part .result .now) (is-class (c .before)) (c .if1 .taken))
+
+box-of-requires : tie.Need-box-of-requires Inv-loop μ-loop
+box-of-requires c κs = let s = c .before .before .before .before .before .before .before .before .before .before in (s .pre .0 .sizes, good-run (c .before), omega (arith, c .if1 .left))
 
 loop-holds : tie.Need-loop-holds Inv-loop μ-loop
-loop-holds c = let a = c .before .before .before .before .before .before .before .before .before .before .args in range-start (markedPairs (a .g) (a .reg-r .now) (tables (a .reg-s .now) (a .starts-s .now) (a .entries-s .now)) (a .r) (a .t) (a .u) (a .a) (c .before .run-part .result .now)) 16 (state (a .found) (a .out .now))
+loop-holds c = let s = c .before .before .before .before .before .before .before .before .before .before .before in range-start (inner (c .before .before)) 16 (first s)
 
 of-marked-requires : tie.Need-of-marked-requires Inv-loop μ-loop
 of-marked-requires c κs =
-    let a = c .before .before .before .before .before .before .before .before .before .before .before .before .before .args in let l = c .before .before .loop in
-    (c .before .before .before .before .before .before .before .before .before .before .before .before .before .pre .0 .sizes, rw (is-run (c .before .before .before .before)) (run-entries-good (a .g) (tables (a .reg-r .now) (a .starts-r .now) (a .entries-r .now)) (c .before .before .before .before .before .before .before .before .before .before .before .before .before .pre .0 .of-r) (c .before .before .before .before .before .run-no .result) (on-grid (c .before .before .before .before .before))), c .before .before .before .before .before .before .before .before .before .before .before .before .before .pre .0 .of-s, c .before .before .before .before .before .before .before .before .before .before .before .before .before .pre .1, c .before .before .before .before .before .before .before .before .before .before .before .before .before .pre .2, c .before .before .before .before .before .before .before .before .before .before .before .before .before .pre .3, c .before .before .before .before .before .before .before .before .before .before .before .before .before .pre .4, c .before .loop-test .taken, range-few (markedPairs (a .g) (a .reg-r .now) (tables (a .reg-s .now) (a .starts-s .now) (a .entries-s .now)) (a .r) (a .t) (a .u) (a .a) (c .before .before .before .before .run-part .result .now)) 16 (state (a .found) (a .out .now)) (state (l .pairs) (l .out)) (l .b) mostPairs (c .before .loop-test .taken) (l .inv) (rw (class-pairs (a .g) (c .before .before .before .before .before .before .before .before .before .before .before .before .before .pre .0 .sizes) (tables (a .reg-r .now) (a .starts-r .now) (a .entries-r .now)) (tables (a .reg-s .now) (a .starts-s .now) (a .entries-s .now)) (a .r) (a .t) (a .u) (a .a) (c .before .before .before .before .run-part .result .now) (is-run (c .before .before .before .before) ∙ ap (λ (k : ℕ). runAt (tables (a .reg-r .now) (a .starts-r .now) (a .entries-r .now)) k) (c .before .before .before .before .before .run-no .ensures))) at (c .before .before .before .before .before .before .before .before .before .before .before .before .before .pre .5)))
+    let s = c .before .before .before .before .before .before .before .before .before .before .before .before .before .before in
+    let k = c .before .before in
+    (s .pre .0 .sizes, good-run (c .before .before .before .before .before), c .before .before .before .box-of .ensures .1, s .pre .0 .of-s, s .pre .1, s .pre .2, s .pre .3, s .pre .4, c .before .loop-test .taken, range-few (inner (c .before .before .before .before .before)) 16 (first s) (here k) (k .loop .b) mostPairs (c .before .loop-test .taken) (k .loop .inv) (rw (whole (c .before .before .before .before .before)) at (s .pre .5)))
 
 add-b : tie.Need-add-b Inv-loop μ-loop
 add-b c = omega arith
@@ -51,18 +101,21 @@ loop-less c = omega arith
 
 loop-again : tie.Need-loop-again Inv-loop μ-loop
 loop-again c =
-    let a = c .before .before .before .before .before .before .before .before .before .before .before .before .before .before .before .before .args in let l = c .before .before .before .before .before .loop in
-    range-step (markedPairs (a .g) (a .reg-r .now) (tables (a .reg-s .now) (a .starts-s .now) (a .entries-s .now)) (a .r) (a .t) (a .u) (a .a) (c .before .before .before .before .before .before .before .run-part .result .now)) 16 (state (a .found) (a .out .now)) (state (l .pairs) (l .out)) _ (l .b) (c .before .before .before .before .loop-test .taken) (l .inv) (c .before .before .of-marked .ensures)
+    let s = c .before .before .before .before .before .before .before .before .before .before .before .before .before .before .before .before .before in
+    let k = c .before .before .before .before .before in
+    range-step (inner (c .before .before .before .before .before .before .before .before)) 16 (first s) (here k) _ (k .loop .b) (c .before .before .before .before .loop-test .taken) (k .loop .inv) (c .before .before .of-marked .ensures)
 
 same-length : tie.Need-same-length Inv-loop μ-loop
 same-length c =
-    let a = c .before .before .before .before .before .before .before .before .before .before .before .before .args in let l = c .before .loop in
-    range-size (markedPairs (a .g) (a .reg-r .now) (tables (a .reg-s .now) (a .starts-s .now) (a .entries-s .now)) (a .r) (a .t) (a .u) (a .a) (c .before .before .before .run-part .result .now)) 16 (state (a .found) (a .out .now)) (state (l .pairs) (l .out)) (l .b) (l .inv)
+    let s = c .before .before .before .before .before .before .before .before .before .before .before .before .before in
+    let k = c .before in
+    range-size (inner (c .before .before .before .before)) 16 (first s) (here k) (k .loop .b) (k .loop .inv)
 
 returns-2 : tie.Need-returns-2 Inv-loop μ-loop
 returns-2 c =
-    let a = c .before .before .before .before .before .before .before .before .before .before .before .before .args in let l = c .before .loop in
-    range-end (markedPairs (a .g) (a .reg-r .now) (tables (a .reg-s .now) (a .starts-s .now) (a .entries-s .now)) (a .r) (a .t) (a .u) (a .a) (c .before .before .before .run-part .result .now)) 16 (state (a .found) (a .out .now)) (state (l .pairs) (l .out)) (l .b) (c .loop-test .left) (l .inv) ∙ ap (kept (state (a .found) (a .out .now))) (sym (class-pairs (a .g) (c .before .before .before .before .before .before .before .before .before .before .before .before .pre .0 .sizes) (tables (a .reg-r .now) (a .starts-r .now) (a .entries-r .now)) (tables (a .reg-s .now) (a .starts-s .now) (a .entries-s .now)) (a .r) (a .t) (a .u) (a .a) (c .before .before .before .run-part .result .now) (is-run (c .before .before .before) ∙ ap (λ (k : ℕ). runAt (tables (a .reg-r .now) (a .starts-r .now) (a .entries-r .now)) k) (c .before .before .before .before .run-no .ensures))))
+    let s = c .before .before .before .before .before .before .before .before .before .before .before .before .before in
+    let k = c .before in
+    range-end (inner (c .before .before .before .before)) 16 (first s) (here k) (k .loop .b) (c .loop-test .left) (k .loop .inv) ∙ ap (kept (first s)) (sym (whole (c .before .before .before .before)))
 
 pub of-class-spec : {M : Type 1} → statement M
 of-class-spec =
@@ -73,6 +126,7 @@ of-class-spec =
     run-no-requires
     run-part-requires
     returns
+    box-of-requires
     loop-holds
     of-marked-requires
     add-b

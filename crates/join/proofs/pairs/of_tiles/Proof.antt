@@ -1,10 +1,12 @@
 -- `join::pairs::of_tiles` meets its contract: R's classes one after the other. Assumes nothing.
-use mathlib.Core.Path.{sym, ap, _∙_}
-use Prim.Native.Nat.{_-_}
-use Rattle.rules.specs.Tables.{tables}
-use Rattle.join.specs.Keeping.{state, kept, mostPairs}
+use mathlib.Core.Path.{_≡_, sym, ap, _∙_}
+use mathlib.Core.List.{List}
+use Prim.Native.Nat.{ℕ, _-_}
+use Rattle.laws.specs.Lists.{upTo, each}
+use Rattle.join.specs.Keeping.{Kept, state, kept, mostPairs}
 use Rattle.join.proofs.Loops.{OverRange, range-start, range-step, range-few, range-size, range-end}
-use Rattle.rules.specs.Join.{classPairs}
+use Rattle.rules.specs.Tables.{Tables, tables}
+use Rattle.rules.specs.Join.{Pair, classPairs, tilePairs}
 use Rattle.rules.proofs.Good.{good-sizes}
 use Rattle.join.proofs.Levels.{tile-pairs}
 use native.Mathlib.Omega.{arith}
@@ -18,16 +20,38 @@ Inv-loop g reg-r starts-r entries-r reg-s starts-s entries-s r t u found out₀ 
 abbrev μ-loop : tie.MeasureT-loop
 μ-loop g reg-r starts-r entries-r reg-s starts-s entries-s r t u found out₀ p pairs₀ a₀ out pairs a = 16 - a
 
+abbrev side-r : tie.Start Inv-loop μ-loop → Tables
+side-r s = tables (s .args .reg-r .now) (s .args .starts-r .now) (s .args .entries-r .now)
+
+abbrev side-s : tie.Start Inv-loop μ-loop → Tables
+side-s s = tables (s .args .reg-s .now) (s .args .starts-s .now) (s .args .entries-s .now)
+
+-- what was kept before the loop, and what is kept at its head
+abbrev first : tie.Start Inv-loop μ-loop → Kept
+first s = state (s .args .found) (s .args .out .now)
+
+abbrev here : tie.At-loop Inv-loop μ-loop → Kept
+here k = state (k .loop .pairs) (k .loop .out)
+
+-- the pairs of each turn, and of all of them
+abbrev inner : tie.Start Inv-loop μ-loop → ℕ → List Pair
+inner s = classPairs (s .args .g) (side-r s) (side-s s) (s .args .r) (s .args .t) (s .args .u)
+
+whole : (s : tie.Start Inv-loop μ-loop)
+    → tilePairs (s .args .g) (side-r s) (side-s s) (s .args .r) (s .args .t) (s .args .u) ≡ each (inner s) (upTo 16)
+whole s = tile-pairs (s .args .g) (side-r s) (side-s s) (s .args .r) (s .args .t) (s .args .u)
+
 position-requires : tie.Need-position-requires Inv-loop μ-loop
-position-requires c κs = good-sizes (c .before .before .before .before .before .before .before .args .g) (c .before .before .before .before .before .before .before .pre .0 .sizes) .n-pos
+position-requires c κs = let s = c .before .before .before .before .before .before .before in good-sizes (s .args .g) (s .pre .0 .sizes) .n-pos
 
 loop-holds : tie.Need-loop-holds Inv-loop μ-loop
-loop-holds c = let a = c .before .before .before .before .before .before .before .before .args in range-start (classPairs (a .g) (tables (a .reg-r .now) (a .starts-r .now) (a .entries-r .now)) (tables (a .reg-s .now) (a .starts-s .now) (a .entries-s .now)) (a .r) (a .t) (a .u)) 16 (state (a .found) (a .out .now))
+loop-holds c = let s = c .before .before .before .before .before .before .before .before in range-start (inner s) 16 (first s)
 
 of-class-requires : tie.Need-of-class-requires Inv-loop μ-loop
 of-class-requires c κs =
-    let a = c .before .before .before .before .before .before .before .before .before .before .before .args in let l = c .before .before .loop in
-    (c .before .before .before .before .before .before .before .before .before .before .before .pre .0, c .before .before .before .before .before .before .before .before .before .before .before .pre .1, c .before .before .before .before .before .before .before .before .before .before .before .pre .2, c .before .before .before .position .ensures .0, c .before .loop-test .taken, range-few (classPairs (a .g) (tables (a .reg-r .now) (a .starts-r .now) (a .entries-r .now)) (tables (a .reg-s .now) (a .starts-s .now) (a .entries-s .now)) (a .r) (a .t) (a .u)) 16 (state (a .found) (a .out .now)) (state (l .pairs) (l .out)) (l .a) mostPairs (c .before .loop-test .taken) (l .inv) (rw (tile-pairs (a .g) (tables (a .reg-r .now) (a .starts-r .now) (a .entries-r .now)) (tables (a .reg-s .now) (a .starts-s .now) (a .entries-s .now)) (a .r) (a .t) (a .u)) at (c .before .before .before .before .before .before .before .before .before .before .before .pre .3)))
+    let s = c .before .before .before .before .before .before .before .before .before .before .before in
+    let k = c .before .before in
+    (s .pre .0, s .pre .1, s .pre .2, c .before .before .before .position .ensures .0, c .before .loop-test .taken, range-few (inner s) 16 (first s) (here k) (k .loop .a) mostPairs (c .before .loop-test .taken) (k .loop .inv) (rw (whole s) at (s .pre .3)))
 
 add-a : tie.Need-add-a Inv-loop μ-loop
 add-a c = omega arith
@@ -37,18 +61,21 @@ loop-less c = omega arith
 
 loop-again : tie.Need-loop-again Inv-loop μ-loop
 loop-again c =
-    let a = c .before .before .before .before .before .before .before .before .before .before .before .before .before .before .args in let l = c .before .before .before .before .before .loop in
-    range-step (classPairs (a .g) (tables (a .reg-r .now) (a .starts-r .now) (a .entries-r .now)) (tables (a .reg-s .now) (a .starts-s .now) (a .entries-s .now)) (a .r) (a .t) (a .u)) 16 (state (a .found) (a .out .now)) (state (l .pairs) (l .out)) _ (l .a) (c .before .before .before .before .loop-test .taken) (l .inv) (c .before .before .of-class .ensures)
+    let s = c .before .before .before .before .before .before .before .before .before .before .before .before .before .before in
+    let k = c .before .before .before .before .before in
+    range-step (inner s) 16 (first s) (here k) _ (k .loop .a) (c .before .before .before .before .loop-test .taken) (k .loop .inv) (c .before .before .of-class .ensures)
 
 same-length : tie.Need-same-length Inv-loop μ-loop
 same-length c =
-    let a = c .before .before .before .before .before .before .before .before .before .before .args in let l = c .before .loop in
-    range-size (classPairs (a .g) (tables (a .reg-r .now) (a .starts-r .now) (a .entries-r .now)) (tables (a .reg-s .now) (a .starts-s .now) (a .entries-s .now)) (a .r) (a .t) (a .u)) 16 (state (a .found) (a .out .now)) (state (l .pairs) (l .out)) (l .a) (l .inv)
+    let s = c .before .before .before .before .before .before .before .before .before .before in
+    let k = c .before in
+    range-size (inner s) 16 (first s) (here k) (k .loop .a) (k .loop .inv)
 
 returns : tie.Need-returns Inv-loop μ-loop
 returns c =
-    let a = c .before .before .before .before .before .before .before .before .before .before .args in let l = c .before .loop in
-    range-end (classPairs (a .g) (tables (a .reg-r .now) (a .starts-r .now) (a .entries-r .now)) (tables (a .reg-s .now) (a .starts-s .now) (a .entries-s .now)) (a .r) (a .t) (a .u)) 16 (state (a .found) (a .out .now)) (state (l .pairs) (l .out)) (l .a) (c .loop-test .left) (l .inv) ∙ ap (kept (state (a .found) (a .out .now))) (sym (tile-pairs (a .g) (tables (a .reg-r .now) (a .starts-r .now) (a .entries-r .now)) (tables (a .reg-s .now) (a .starts-s .now) (a .entries-s .now)) (a .r) (a .t) (a .u)))
+    let s = c .before .before .before .before .before .before .before .before .before .before in
+    let k = c .before in
+    range-end (inner s) 16 (first s) (here k) (k .loop .a) (c .loop-test .left) (k .loop .inv) ∙ ap (kept (first s)) (sym (whole s))
 
 pub of-tiles-spec : {M : Type 1} → statement M
 of-tiles-spec =

@@ -10,16 +10,22 @@ listed-requires : tie.Need-listed-requires
 listed-requires c κs = search needs
 
 keep-requires : tie.Need-keep-requires
-keep-requires c κs = let a = c .before .before .before .before .before .before .args in room-for-one (a .g) (a .reg-r .now) (a .reg-s .now) (a .r) (a .k) (a .m) (a .i) (a .j) (a .found) (c .before .before .before .before .before .before .pre .3) (sym (c .before .before .listed .ensures) ∙ c .before .if1 .taken)
+keep-requires c κs =
+    let s = c .before .before .before .before .before .before in
+    room-for-one (s .args .g) (s .args .reg-r .now) (s .args .reg-s .now) (s .args .r) (s .args .k) (s .args .m) (s .args .i) (s .args .j) (s .args .found) (s .pre .3) (sym (c .before .before .listed .ensures) ∙ c .before .if1 .taken)
 
 same-length : tie.Need-same-length
 same-length c = search needs
 
 returns : tie.Need-returns
-returns c = let a = c .before .before .before .before .before .before .before .before .before .args in one-kept (a .g) (a .reg-r .now) (a .reg-s .now) (a .r) (a .k) (a .m) (a .i) (a .j) _ _ (sym (c .before .before .before .before .before .listed .ensures) ∙ c .before .before .before .before .if1 .taken) (c .before .before .keep .ensures)
+returns c =
+    let s = c .before .before .before .before .before .before .before .before .before in
+    one-kept (s .args .g) (s .args .reg-r .now) (s .args .reg-s .now) (s .args .r) (s .args .k) (s .args .m) (s .args .i) (s .args .j) _ _ (sym (c .before .before .before .before .before .listed .ensures) ∙ c .before .before .before .before .if1 .taken) (c .before .before .keep .ensures)
 
 returns-2 : tie.Need-returns-2
-returns-2 c = let a = c .before .before .before .before .before .args in none-kept (a .g) (a .reg-r .now) (a .reg-s .now) (a .r) (a .k) (a .m) (a .i) (a .j) (state (a .found) (a .out .now)) (sym (c .before .listed .ensures) ∙ c .if1 .left)
+returns-2 c =
+    let s = c .before .before .before .before .before in
+    none-kept (s .args .g) (s .args .reg-r .now) (s .args .reg-s .now) (s .args .r) (s .args .k) (s .args .m) (s .args .i) (s .args .j) (state (s .args .found) (s .args .out .now)) (sym (c .before .listed .ensures) ∙ c .if1 .left)
 
 pub of-two-spec : {M : Type 1} → statement M
 of-two-spec = tie.close (tie.spec listed-requires keep-requires same-length returns returns-2)

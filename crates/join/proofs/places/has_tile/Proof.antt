@@ -11,19 +11,27 @@ div-reaches : tie.Need-div-reaches
 div-reaches c = search needs
 
 reaches-requires : tie.Need-reaches-requires
-reaches-requires c κs = let h = row-below (c .before .args .g) (c .before .pre .0) (c .before .args .t) (c .before .pre .2) in (omega (arith, h, c .before .pre .1), omega (arith, c .before .pre .3))
+reaches-requires c κs =
+    let s = c .before in
+    let h = row-below (s .args .g) (s .pre .0) (s .args .t) (s .pre .2) in (omega (arith, h, s .pre .1), omega (arith, s .pre .3))
 
 returns : tie.Need-returns
-returns c = no-row (c .before .before .before .args .g) (c .before .before .before .args .t) (c .before .before .before .args .p) _ (c .before .reaches .ensures) (not-true _ (c .if1 .taken))
+returns c =
+    let s = c .before .before .before in
+    no-row (s .args .g) (s .args .t) (s .args .p) _ (c .before .reaches .ensures) (not-true _ (c .if1 .taken))
 
 rem-reaches : tie.Need-rem-reaches
 rem-reaches c = search needs
 
 reaches-requires-2 : tie.Need-reaches-requires-2
-reaches-requires-2 c κs = let h = column-below (c .before .before .before .before .args .g) (c .before .before .before .before .pre .0) (c .before .before .before .before .args .t) (c .before .before .before .before .pre .2) in (omega (arith, h, c .before .before .before .before .pre .1), omega (arith, c .before .before .before .before .pre .3))
+reaches-requires-2 c κs =
+    let s = c .before .before .before .before in
+    let h = column-below (s .args .g) (s .pre .0) (s .args .t) (s .pre .2) in (omega (arith, h, s .pre .1), omega (arith, s .pre .3))
 
 returns-2 : tie.Need-returns-2
-returns-2 c = c .reaches2 .ensures ∙ a-row (c .before .before .before .before .before .args .g) (c .before .before .before .before .before .args .t) (c .before .before .before .before .before .args .p) _ (c .before .before .before .reaches .ensures) (not-false _ (c .before .before .if1 .left))
+returns-2 c =
+    let s = c .before .before .before .before .before in
+    c .reaches2 .ensures ∙ a-row (s .args .g) (s .args .t) (s .args .p) _ (c .before .before .before .reaches .ensures) (not-false _ (c .before .before .if1 .left))
 
 pub has-tile-spec : {M : Type 1} → statement M
 has-tile-spec =

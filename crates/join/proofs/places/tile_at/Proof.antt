@@ -11,22 +11,32 @@ div-tile-no : tie.Need-div-tile-no
 div-tile-no c = search needs
 
 add-tile-no : tie.Need-add-tile-no
-add-tile-no c = let h = around-below (c .before .args .g) (c .before .pre .0) (c .before .args .t) (c .before .pre .2) (c .before .args .p) (c .before .pre .4) in omega (arith, h .0, h .1, h .2, h .3, c .before .pre .1)
+add-tile-no c =
+    let s = c .before in
+    let h = around-below (s .args .g) (s .pre .0) (s .args .t) (s .pre .2) (s .args .p) (s .pre .4) in omega (arith, h .0, h .1, h .2, h .3, s .pre .1)
 
 sub-tile-no : tie.Need-sub-tile-no
-sub-tile-no c = let h = around-below (c .before .args .g) (c .before .pre .0) (c .before .args .t) (c .before .pre .2) (c .before .args .p) (c .before .pre .4) in omega (arith, h .0, h .1, h .2, h .3, c .before .pre .1)
+sub-tile-no c =
+    let s = c .before in
+    let h = around-below (s .args .g) (s .pre .0) (s .args .t) (s .pre .2) (s .args .p) (s .pre .4) in omega (arith, h .0, h .1, h .2, h .3, s .pre .1)
 
 rem-tile-no : tie.Need-rem-tile-no
 rem-tile-no c = search needs
 
 add-tile-no-2 : tie.Need-add-tile-no-2
-add-tile-no-2 c = let h = around-below (c .before .before .args .g) (c .before .before .pre .0) (c .before .before .args .t) (c .before .before .pre .2) (c .before .before .args .p) (c .before .before .pre .4) in omega (arith, h .0, h .1, h .2, h .3, c .before .before .pre .1)
+add-tile-no-2 c =
+    let s = c .before .before in
+    let h = around-below (s .args .g) (s .pre .0) (s .args .t) (s .pre .2) (s .args .p) (s .pre .4) in omega (arith, h .0, h .1, h .2, h .3, s .pre .1)
 
 sub-tile-no-2 : tie.Need-sub-tile-no-2
-sub-tile-no-2 c = let h = around-below (c .before .before .args .g) (c .before .before .pre .0) (c .before .before .args .t) (c .before .before .pre .2) (c .before .before .args .p) (c .before .before .pre .4) in omega (arith, h .0, h .1, h .2, h .3, c .before .before .pre .1)
+sub-tile-no-2 c =
+    let s = c .before .before in
+    let h = around-below (s .args .g) (s .pre .0) (s .args .t) (s .pre .2) (s .args .p) (s .pre .4) in omega (arith, h .0, h .1, h .2, h .3, s .pre .1)
 
 tile-no-requires : tie.Need-tile-no-requires
-tile-no-requires c κs = let h = around-below (c .before .before .args .g) (c .before .before .pre .0) (c .before .before .args .t) (c .before .before .pre .2) (c .before .before .args .p) (c .before .before .pre .4) in (c .before .before .pre .1, omega (arith, h .0, h .1), omega (arith, h .2, h .3))
+tile-no-requires c κs =
+    let s = c .before .before in
+    let h = around-below (s .args .g) (s .pre .0) (s .args .t) (s .pre .2) (s .args .p) (s .pre .4) in (s .pre .1, omega (arith, h .0, h .1), omega (arith, h .2, h .3))
 
 returns : tie.Need-returns
 unfolding tileAt rowOf columnOf

@@ -1,0 +1,12 @@
+pub mod Adding
+pub mod Bringing
+pub mod Near
+pub mod Entries
+pub mod Judging
+pub mod Classes
+pub mod Groups
+pub mod Moves
+pub mod Weighing
+pub mod Runs
+pub mod Starting
+pub mod Asking
