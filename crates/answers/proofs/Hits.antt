@@ -72,7 +72,7 @@ module _ (f : ℕ → List ℕ) (l : List ℕ) (n i : ℕ) (o : Output) where
 
 module _ (g : Grid) (t : Tables) (q : Point) (r : ℕ) where
   -- the hits are entries that are read, and they show no damage
-  hit-named : searchVerdict g t q r ≡ pass → (i : ℕ) → List·Memᴰ i (radiusHits g t q r) → Named g (t .reg) q i
+  pub hit-named : searchVerdict g t q r ≡ pass → (i : ℕ) → List·Memᴰ i (radiusHits g t q r) → Named g (t .reg) q i
   unfolding radiusHits goodRuns goodRun
   hit-named e i m =
       let p = passed g t q r e in

@@ -1,2 +1,4 @@
 pub mod Hits
+pub mod Room
+pub mod Turns
 pub mod Unique

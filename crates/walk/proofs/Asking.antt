@@ -8,6 +8,7 @@ use lib.ListN.{length, take, drop, replicate, length-replicate, drop-of-length-l
 use lib.Seq.{length-take-le}
 use borrow.Author.Tests.{le-ltb, lt-ltb}
 use Rattle.laws.specs.Lists.{over}
+use Rattle.laws.proofs.Stores.{drop-more}
 use Rattle.rules.specs.Sizes.{badSizes, badPoint}
 use Rattle.rules.specs.Tables.{Tables, badLengths}
 use Rattle.rules.specs.Refusals.{Paper, paper, paperAnswer, refuse}
@@ -25,7 +26,7 @@ use Rattle.walk.specs.Taking.{state, standing, Ran}
 use Rattle.walk.specs.Answers.{Says}
 use Rattle.walk.specs.declared.take.At.{At}
 use Rattle.walk.proofs.Adding.{same-rows}
-use Rattle.walk.proofs.Runs.{standing-fine, drop-more}
+use Rattle.walk.proofs.Runs.{standing-fine}
 
 -- the four that an ask leaves, made of equal parts
 four : {p p′ : Paper} {w w′ : Walk} {f f′ o o′ : List ℕ} → p ≡ p′ → w ≡ w′ → f ≡ f′ → o ≡ o′

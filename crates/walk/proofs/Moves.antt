@@ -93,6 +93,10 @@ module _ (front batch front₁ batch₁ front₂ : List ℕ) (s r : At) (f : Fil
 
 -- ---- a footprint is handed out
 
+writes-length : (g : Grid) (reg : List ℕ) (q : Point) (i square : ℕ) → length (rowWrites g reg q i square) ≡ rowNumbers
+unfolding rowWrites
+writes-length g reg q i square = refl
+
 module _ (g : Grid) (t : Tables) (q : Point) (square i : ℕ) (front out : List ℕ) (s : At) (lt : s .head < length (rows front)) where
   pub hand-bad : badEntry g (t .reg) i ≡ true → Moved (itemMove g t q square (Footprint i)) front out front out s (state (s .head) (s .given) true)
   unfolding itemMove standing
@@ -101,13 +105,15 @@ module _ (g : Grid) (t : Tables) (q : Point) (square i : ℕ) (front out : List 
   pub hand-fine : badEntry g (t .reg) i ≡ false → rowNumbers * s .given + rowNumbers ≤ length out → (out′ : List ℕ)
       → out′ ≡ take (rowNumbers * s .given) out ++ (rowWrites g (t .reg) q i square ++ drop (rowNumbers * (s .given + 1)) out)
       → Moved (itemMove g t q square (Footprint i)) front out front out′ s (state (s .head + 1) (s .given + 1) false)
-  unfolding itemMove standing rowWrites
+  unfolding itemMove standing
   hand-fine e room out′ w =
-      let n = 2 * (s .given + 1) in
-      let first = take (2 * s .given) out ++ (i ∷ square ∷ []) in
+      let n = rowNumbers * (s .given + 1) in
+      let before = take (rowNumbers * s .given) out in
+      let writes = rowWrites g (t .reg) q i square in
+      let first = before ++ writes in
       let l : length first ≡ n =
-      length-append (take (2 * s .given) out) (i ∷ square ∷ []) ∙ omega (arith, length-take-le (2 * s .given) out (omega arith)) in
-      let v : out′ ≡ first ++ drop n out = w ∙ sym (append-assoc (take (2 * s .given) out) (i ∷ square ∷ []) (drop n out)) in
+      length-append before writes ∙ omega (arith, length-take-le (rowNumbers * s .given) out (omega arith), writes-length g (t .reg) q i square) in
+      let v : out′ ≡ first ++ drop n out = w ∙ sym (append-assoc before writes (drop n out)) in
       let given : take n out′ ≡ first = ap (take n) v ∙ take-at first (drop n out) n l in
       record {
         inside = omega arith;

@@ -7,9 +7,10 @@ use native.Mathlib.Numerals.{add-one}
 use native.Mathlib.Omega.{arith}
 use lib.Dec.{leb, ltb}
 use lib.ListN.{length, take, drop, getD, drop-of-length-le}
-use lib.Seq.{drop-cons, drop-drop}
+use lib.Seq.{drop-cons}
 use borrow.Author.Tests.{ltb-true, ltb-false, leb-true, leb-false}
 use Rattle.laws.proofs.Tests.{clash}
+use Rattle.laws.proofs.Stores.{drop-more}
 use Rattle.rules.specs.Tables.{Tables}
 use Rattle.rules.specs.Front.{rows, decoded}
 use Rattle.rules.specs.Merge.{none}
@@ -117,11 +118,6 @@ goes-no front out j s = go (s .bad) (leb j (s .given)) (ltb (s .head) (length (r
     go false false false f g t =
         ap (halts false (j - s .given)) (drop-of-length-le (rows front) {i = s .head} (ltb-false (s .head) (length (rows front)) g)) ∙ halts-empty (j - s .given)
 
-pub drop-more : (x y : List ℕ) (a b : ℕ) → a ≤ b → drop a x ≡ drop a y → drop b x ≡ drop b y
-drop-more x y a b h e =
-    let f : b ≡ a + (b - a) = omega arith in
-    ap (λ (k : ℕ). drop k x) f ∙ sym (drop-drop (b - a) a x) ∙ ap (drop (b - a)) e ∙ drop-drop (b - a) a y ∙ ap (λ (k : ℕ). drop k y) (sym f)
-
 -- ---- the loop: what stands, worked on, is the whole
 
 module _ (g : Grid) (t : Tables) (q : Point) (front₀ out₀ : List ℕ) (head j : ℕ) where
@@ -156,7 +152,7 @@ module _ (g : Grid) (t : Tables) (q : Point) (front₀ out₀ : List ℕ) (head 
             few = omega arith;
             front-size = lf ∙ p .front-size;
             out-size = lo ∙ p .out-size;
-            behind = n .behind ∙ drop-more out out₀ (2 * s .given) (2 * r .given) (omega arith) (p .behind);
+            behind = n .behind ∙ drop-more out out₀ (rowNumbers * s .given) (rowNumbers * r .given) (omega arith) (p .behind);
             is = ap (finish g t q (length (rows front₀))) stepped ∙ sym (finish-step g t q (length (rows front₀)) (standing front out j s) on) ∙ p .is;
           }
 

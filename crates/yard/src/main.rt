@@ -17,7 +17,7 @@ fn print(out: &[u8], count: usize) {
     }
 }
 
-// Prints a refusal: two lines of 15 bytes at most.
+// Prints a refusal, which has 26 bytes at most.
 fn refuse(why: Refusal) {
     let mut out = [0u8; 64];
     let count = sheet::put_refusal(&mut out, 0, why);

@@ -133,7 +133,10 @@ fn tell(place: u64, call: &Call, expected: &[u64], came: &[u64], other: &Option<
     println!("call {place} differs; in the format of replay it is:");
     print!("{}", call_text(call));
     let same = expected.iter().zip(came).take_while(|(e, c)| e == c);
-    println!("first difference at number {} of the answer", same.count());
+    println!(
+        "first difference at number {} of the answer, from 0",
+        same.count()
+    );
     println!("expected: {expected:?}");
     println!("came:     {came:?}");
     if let Some(other) = other {

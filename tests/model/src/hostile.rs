@@ -234,11 +234,10 @@ fn cut(random: &mut Random, bytes: &mut Vec<u8>) {
     }
 }
 
-/// Cuts one of the byte tables in some cases.
+/// Cuts each of the byte tables in some cases.
 fn cut_some(random: &mut Random, lent: &mut LentBytes) {
-    let percent = 6;
     for table in [&mut lent.reg, &mut lent.starts, &mut lent.entries] {
-        if random.chance(percent) {
+        if random.chance(6) {
             cut(random, table);
         }
     }
@@ -286,11 +285,12 @@ fn bad_size(random: &mut Random, most: u32) -> u32 {
     }
 }
 
+/// A size out of its range, or a good side that the tables were not made for.
 fn fault_in_grid(random: &mut Random, g: &mut Grid) {
-    if random.chance(50) {
-        g.n = bad_size(random, TILES_MOST);
-    } else {
-        g.side = bad_size(random, SIDE_MOST);
+    match random.below(5) {
+        0 | 1 => g.n = bad_size(random, TILES_MOST),
+        2 | 3 => g.side = bad_size(random, SIDE_MOST),
+        _ => g.side = random.between(1, g.side.clamp(1, SIDE_MOST)),
     }
 }
 
@@ -306,7 +306,7 @@ fn fault_in_tiles(random: &mut Random, call: &mut Call) {
     }
 }
 
-/// One number more, up to three less, none at all, or much too long.
+/// One number more, up to three less, none at all, or three more.
 fn fault_in_length(random: &mut Random, table: &mut Vec<u32>) {
     match random.below(4) {
         0 => table.clear(),
