@@ -18,7 +18,7 @@ pub struct Told {
 }
 
 // A refusal's number and its value, 0 where it has none.
-pub(crate) fn told_refusal(r: Refusal) -> Told
+pub fn told_refusal(r: Refusal) -> Told
     ensures { λ t. ⌜ t ≡ outward (paper r) ⌝ }
 {
     match r {
@@ -58,7 +58,7 @@ pub(crate) fn told_refusal(r: Refusal) -> Told
 }
 
 // An answer's number and its value.
-pub(crate) fn told_answer(a: Answer) -> Told
+pub fn told_answer(a: Answer) -> Told
     ensures { λ t. ⌜ t ≡ outward (paperAnswer a) ⌝ }
 {
     match a {
@@ -71,7 +71,7 @@ pub(crate) fn told_answer(a: Answer) -> Told
 }
 
 // A check's number, and 1 for yes, 0 for no.
-pub(crate) fn told_checked(a: Checked) -> Told
+pub fn told_checked(a: Checked) -> Told
     ensures { λ t. ⌜ t ≡ outward (paperChecked a) ⌝ }
 {
     match a {
