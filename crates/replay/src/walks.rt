@@ -34,7 +34,7 @@ fn next_walk(buffer: &mut [u8], place: &mut Place) -> Walk {
     let x = next_word(buffer, place);
     let y = next_word(buffer, place);
     let rows = next_number(buffer, place, MOST_LONG);
-    let set = next_number(buffer, place, MOST_LONG);
+    let set = next_word(buffer, place);
     Walk {
         x: x,
         y: y,
