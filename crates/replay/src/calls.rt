@@ -1,7 +1,7 @@
 // The calls: each reads its parameters, lends them as tables of exactly their lengths, and puts the answer.
 use crate::walks::ask;
 use crate::walks::start;
-use ports::Told;
+use outward::Told;
 use rules::Ends;
 use rules::Grid;
 use vectors::input::BROKEN;
@@ -63,7 +63,7 @@ fn build(
     if !is_open(*place) {
         return;
     }
-    let told = ports::told_answer(index::build(g, reg, starts, entries));
+    let told = outward::told_answer(index::build(g, reg, starts, entries));
     put_told(out, waiting, told);
     put_words(out, waiting, starts);
     put_words(out, waiting, entries);
@@ -82,7 +82,7 @@ fn check(
     if !is_open(*place) {
         return;
     }
-    let told = ports::told_checked(index::check(g, reg, starts, entries));
+    let told = outward::told_checked(index::check(g, reg, starts, entries));
     put_told(out, waiting, told);
 }
 
@@ -98,7 +98,7 @@ fn answer_search(
     out: &mut [u8],
     waiting: &mut usize,
 ) {
-    let told = ports::told_answer(search::search(g, reg, starts, entries, x, y, r, hits));
+    let told = outward::told_answer(search::search(g, reg, starts, entries, x, y, r, hits));
     put_told(out, waiting, told);
     put_words(out, waiting, hits);
 }
@@ -147,7 +147,7 @@ fn answer_run(
 ) {
     match tables::run_ends(g, starts, entries.len(), tile, class) {
         Ends::Refused(why) => {
-            put_told(out, waiting, ports::told_refusal(why));
+            put_told(out, waiting, outward::told_refusal(why));
             put(out, waiting, 0);
         }
         Ends::At(from, _) => {
@@ -191,7 +191,7 @@ fn answer_join(
     out: &mut [u8],
     waiting: &mut usize,
 ) {
-    let told = ports::told_answer(join::join(
+    let told = outward::told_answer(join::join(
         g,
         reg_r,
         starts_r,

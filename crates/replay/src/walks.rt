@@ -21,7 +21,7 @@ fn mark(set: bool) -> u64 {
 // The answer, and the state after it: x y waiting mark.
 fn put_walked(out: &mut [u8], waiting: &mut usize, walked: Walked) {
     let answer = walked.answer;
-    put_told(out, waiting, ports::told_answer(answer));
+    put_told(out, waiting, outward::told_answer(answer));
     let state = walked.walk;
     put(out, waiting, state.x as u64);
     put(out, waiting, state.y as u64);

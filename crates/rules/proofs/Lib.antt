@@ -31,3 +31,4 @@ pub mod Decimals
 pub mod Lengths
 pub mod Written
 pub mod Grammar
+pub mod Bytes

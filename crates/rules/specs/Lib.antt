@@ -17,3 +17,4 @@ pub mod Lines
 pub mod Waits
 pub mod Text
 pub mod Yard
+pub mod Bytes

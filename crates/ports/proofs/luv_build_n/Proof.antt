@@ -1,5 +1,5 @@
 -- `ports::luv_build_n` meets its contract: the build's, told to C. Assumes nothing.
-use Rattle.ports.proofs.Tell.{with-two}
+use Rattle.outward.proofs.Tell.{with-two}
 use borrow.Author.Needs.{needs}
 use Rattle.ports.proofs.luv_build_n.Statement.{statement}
 use Rattle.ports.proofs.luv_build_n.Tie as tie

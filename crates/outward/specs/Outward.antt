@@ -6,7 +6,7 @@ use lib.Dec.{eqb}
 use lib.ListN.{length, getD}
 use Rattle.rules.specs.Refusals.{Paper}
 use Rattle.rules.specs.declared.Walk.{Walk}
-use Rattle.ports.specs.declared.Told.{Told}
+use Rattle.outward.specs.declared.Told.{Told}
 
 abbrev pub told : ℕ → ℕ → Told
 told k v = record { number = k; value = v }

@@ -3,8 +3,8 @@ use mathlib.Core.Path.{_≡_, ap, _∙_}
 use mathlib.Core.List.{List}
 use Prim.Native.Nat.{ℕ}
 use Rattle.rules.specs.Refusals.{Paper}
-use Rattle.ports.specs.Outward.{told, outward, outward₁, outward₂}
-use Rattle.ports.specs.declared.Told.{Told}
+use Rattle.outward.specs.Outward.{told, outward, outward₁, outward₂}
+use Rattle.outward.specs.declared.Told.{Told}
 
 -- beside one table
 pub with-one : (t : Told) (p : Paper) (a : List ℕ) (w : Paper × List ℕ) → t ≡ outward p → _≡_ {A = Paper × List ℕ} (p, a) w

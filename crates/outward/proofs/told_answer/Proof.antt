@@ -1,9 +1,9 @@
--- `ports::told_answer` meets its contract, case by case. Assumes nothing.
+-- `outward::told_answer` meets its contract, case by case. Assumes nothing.
 use Rattle.rules.specs.Refusals.{paperAnswer}
-use Rattle.ports.specs.Outward.{outward}
+use Rattle.outward.specs.Outward.{outward}
 use borrow.Author.Needs.{needs}
-use Rattle.ports.proofs.told_answer.Statement.{statement}
-use Rattle.ports.proofs.told_answer.Tie as tie
+use Rattle.outward.proofs.told_answer.Statement.{statement}
+use Rattle.outward.proofs.told_answer.Tie as tie
 
 enum-known-a : tie.Need-enum-known-a
 enum-known-a c = search needs

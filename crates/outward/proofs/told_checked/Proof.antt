@@ -1,9 +1,9 @@
--- `ports::told_checked` meets its contract, case by case. Assumes nothing.
+-- `outward::told_checked` meets its contract, case by case. Assumes nothing.
 use Rattle.rules.specs.Refusals.{paperChecked}
-use Rattle.ports.specs.Outward.{outward}
+use Rattle.outward.specs.Outward.{outward}
 use borrow.Author.Needs.{needs}
-use Rattle.ports.proofs.told_checked.Statement.{statement}
-use Rattle.ports.proofs.told_checked.Tie as tie
+use Rattle.outward.proofs.told_checked.Statement.{statement}
+use Rattle.outward.proofs.told_checked.Tie as tie
 
 enum-told : tie.Need-enum-told
 enum-told c = search needs
