@@ -22,7 +22,7 @@ use Rattle.rules.specs.declared.Direction.{Direction}
 use Rattle.rules.specs.declared.Item.{Item}
 use Rattle.rules.specs.declared.Item.the-variants.{Group, Tile, Footprint}
 use Rattle.rules.proofs.Good.{GoodSizes, good-sizes, GoodRect, Accepted, few-footprints, good-footprint, OnGrid, on-grid}
-use Rattle.rules.proofs.Report.{column-inside, column-again, row-again}
+use Rattle.rules.proofs.Report.{column-inside}
 use Rattle.rules.proofs.Keys.{Small, keyRow}
 use Rattle.rules.proofs.Encoding.{InRange}
 use Rattle.rules.proofs.Items.{small-item, one-item}
@@ -72,6 +72,13 @@ module _ (g : Grid) (reg : List ℕ) (q : Point) where
   brings (Tile t) = map Footprint (each (builtRun g reg) (allowedRuns g q t))
   brings (Footprint i) = []
 
+-- items of one kind are told apart by their numbers
+pub same-tile : (a b : ℕ) → Tile a ≡ Tile b → a ≡ b
+same-tile a b e = cc
+
+pub same-footprint : (a b : ℕ) → Footprint a ≡ Footprint b → a ≡ b
+same-footprint a b e = cc
+
 pub around : {g : Grid} {reg : List ℕ} {q : Point} → Accepted g reg → badPoint g q ≡ false → Around g reg q
 around {g} {reg} {q} a on = record { accepted = a; on = on-grid g q on }
 
@@ -87,15 +94,6 @@ module _ {g : Grid} {reg : List ℕ} {q : Point} (S : Around g reg q) where
 
   pub row-lt : column g (q .y) < g .n
   row-lt = column-inside g (sizes .side-pos) (q .y) (S .on .y-on)
-
-  -- the point's own tile, by its column and row
-  pub own-column : (t : ℕ) → t ≡ tileOf g q → columnOf g t ≡ column g (q .x)
-  unfolding tileOf
-  own-column t e = rw e (column-again g (sizes .side-pos) (column g (q .y)) (column g (q .x)) column-lt)
-
-  pub own-row : (t : ℕ) → t ≡ tileOf g q → rowOf g t ≡ column g (q .y)
-  unfolding tileOf
-  own-row t e = rw e (row-again g (sizes .side-pos) (column g (q .y)) (column g (q .x)) column-lt)
 
   -- a tile other than the point's lies off its column or row
   pub off-centre : (t : ℕ) → (t ≡ tileOf g q → ⊥) → columnOf g t ≡ column g (q .x) → rowOf g t ≡ column g (q .y) → ⊥

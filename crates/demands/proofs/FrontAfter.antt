@@ -24,7 +24,7 @@ use Rattle.rules.specs.declared.Direction.{Direction}
 use Rattle.rules.specs.declared.Item.{Item}
 use Rattle.rules.specs.declared.Item.the-variants.{Group, Tile, Footprint}
 use Rattle.rules.proofs.Keys.{rows-insAll}
-use Rattle.demands.proofs.Around.{Around, key, Valid, parent, brings, small, one-key}
+use Rattle.demands.proofs.Around.{Around, key, Valid, parent, brings, small, one-key, same-tile, same-footprint}
 use Rattle.demands.proofs.Opens.{forest}
 use Rattle.demands.proofs.Everything.{in-directions, parentKey, waits, RestOf, footprint-there, there-footprint, apart-directions, four-directions}
 use Rattle.demands.proofs.Machine.{rowsOf}
@@ -104,12 +104,6 @@ module _ {g : Grid} {reg : List ℕ} {q : Point} (S : Around g reg q) (last : �
       at-most-one : (l : List ℕ) → Apart K (map (Group d) (take 1 l))
       at-most-one [] = tt
       at-most-one (x ∷ l) = (refl, tt)
-
-  same-tile : (a b : ℕ) → Tile a ≡ Tile b → a ≡ b
-  same-tile a b e = cc
-
-  same-footprint : (a b : ℕ) → Footprint a ≡ Footprint b → a ≡ b
-  same-footprint a b e = cc
 
   apart-groups : Apart K groups
   apart-groups =

@@ -9,18 +9,19 @@ use lib.Dec.{ltb, eqb}
 use lib.ListN.{length}
 use borrow.Author.Tests.{ltb-true, le-ltb, eqb-true, eq-eqb}
 use Rattle.laws.specs.Lists.{filter, upTo, each, only}
-use Rattle.laws.specs.Pairs.{samePair, pairTimes}
+use Rattle.laws.specs.Pairs.{pairs, samePair, pairTimes}
 use Rattle.laws.proofs.Tests.{by-bool, iff, fst-true, snd-true, both-true, cross}
 use Rattle.laws.proofs.Lists.{filter-each, each-filter, each-same, only-each, only-filter, filter-filter, filter-same}
 use Rattle.laws.proofs.Ranges.{mem-from, each-from}
-use Rattle.laws.proofs.Pairs.{mem-pairs, pairs-of-filters, test-out, pair-once, one-in-four, each-empty}
+use Rattle.laws.proofs.Pairs.{mem-pairs, pairs-of-filters, test-out, pair-once, one-in-four}
+use Rattle.laws.proofs.Lists.{each-empty}
 use Rattle.rules.specs.Sizes.{tileCount, tiles}
 use Rattle.rules.specs.Distance.{within}
 use Rattle.rules.specs.Classes.{classes, markedIn}
 use Rattle.rules.specs.Register.{count, footprints, rectangle}
 use Rattle.rules.specs.Tables.{Tables, runNo, runs, stands, builtRun, builtTables}
 use Rattle.rules.specs.Refusals.{pass, fit}
-use Rattle.rules.specs.Join.{Pair, neighbours, lists, pairsOf, runPairs, classPairs, tilePairs, joinPairs, pairWrites, joinVerdict, joins, corner, pairRuns, pairedIn, declaredPairs}
+use Rattle.rules.specs.Join.{Pair, neighbours, lists, runPairs, classPairs, tilePairs, joinPairs, pairWrites, joinVerdict, joins, corner, pairRuns, pairedIn, declaredPairs}
 use Rattle.rules.specs.declared.Grid.{Grid}
 use Rattle.rules.proofs.Good.{good-sizes, Accepted, good-footprint}
 use Rattle.rules.proofs.Report.{run-tile, run-class, run-below, report-run-below}
@@ -89,17 +90,17 @@ module _ (g : Grid) (regR tailR regS tailS : List ℕ) (okR : Accepted g regR) (
 
     -- so the pairs of these runs are those declared there
     runs-join : only (neighbours g t u) (only (markedIn g t u a b) (runPairs g tr ts r (runNo t a) (runNo u b)))
-        ≡ filter (pairedIn g regR regS r (runNo t a) (runNo u b)) (pairsOf (footprints regR) (footprints regS))
+        ≡ filter (pairedIn g regR regS r (runNo t a) (runNo u b)) (pairs (footprints regR) (footprints regS))
     unfolding runPairs builtRun builtTables footprints
     runs-join =
-        ap₂ (λ (l m : List ℕ). only (neighbours g t u) (only (markedIn g t u a b) (filter (lists g regR regS r (runNo t a) (runNo u b)) (pairsOf l m))))
+        ap₂ (λ (l m : List ℕ). only (neighbours g t u) (only (markedIn g t u a b) (filter (lists g regR regS r (runNo t a) (runNo u b)) (pairs l m))))
         (built-run g regR tailR (runNo t a) (run-below g t a ht ha)) (built-run g regS tailS (runNo u b) (run-below g u b hu hb))
         ∙ ap (λ (l : List Pair). only (neighbours g t u) (only (markedIn g t u a b) (filter (lists g regR regS r (runNo t a) (runNo u b)) l)))
         (pairs-of-filters (stands g regR (runNo t a)) (stands g regS (runNo u b)) (footprints regR) (footprints regS))
-        ∙ ap (λ (l : List Pair). only (neighbours g t u) (only (markedIn g t u a b) l)) (filter-filter (lists g regR regS r (runNo t a) (runNo u b)) _ (pairsOf (footprints regR) (footprints regS)))
-        ∙ ap (only (neighbours g t u)) (only-filter (markedIn g t u a b) _ (pairsOf (footprints regR) (footprints regS)))
-        ∙ only-filter (neighbours g t u) _ (pairsOf (footprints regR) (footprints regS))
-        ∙ filter-same _ _ (pairsOf (footprints regR) (footprints regS)) (λ p m. at p (mem-pairs (footprints regR) (footprints regS) m))
+        ∙ ap (λ (l : List Pair). only (neighbours g t u) (only (markedIn g t u a b) l)) (filter-filter (lists g regR regS r (runNo t a) (runNo u b)) _ (pairs (footprints regR) (footprints regS)))
+        ∙ ap (only (neighbours g t u)) (only-filter (markedIn g t u a b) _ (pairs (footprints regR) (footprints regS)))
+        ∙ only-filter (neighbours g t u) _ (pairs (footprints regR) (footprints regS))
+        ∙ filter-same _ _ (pairs (footprints regR) (footprints regS)) (λ p m. at p (mem-pairs (footprints regR) (footprints regS) m))
       where
         at : (p : Pair) → List·Memᴰ (p .0) (footprints regR) × List·Memᴰ (p .1) (footprints regS)
             → (neighbours g t u && (markedIn g t u a b && ((stands g regR (runNo t a) (p .0) && stands g regS (runNo u b) (p .1))
@@ -112,7 +113,7 @@ module _ (g : Grid) (regR tailR regS tailS : List ℕ) (okR : Accepted g regR) (
 
   tiles-join : (t u : ℕ) → t < tileCount g → u < tileCount g
       → only (neighbours g t u) (tilePairs g tr ts r t u)
-      ≡ each (λ a. each (λ b. filter (pairedIn g regR regS r (runNo t a) (runNo u b)) (pairsOf (footprints regR) (footprints regS))) classes) classes
+      ≡ each (λ a. each (λ b. filter (pairedIn g regR regS r (runNo t a) (runNo u b)) (pairs (footprints regR) (footprints regS))) classes) classes
   unfolding tilePairs classPairs
   tiles-join t u ht hu =
       only-each (neighbours g t u) (classPairs g tr ts r t u) classes
@@ -132,7 +133,7 @@ module _ (g : Grid) (regR tailR regS tailS : List ℕ) (okR : Accepted g regR) (
   module _ (i j : ℕ) where
     -- the pair, where both are footprints
     abbrev once : List Pair
-    once = filter (samePair (i, j)) (pairsOf (footprints regR) (footprints regS))
+    once = filter (samePair (i, j)) (pairs (footprints regR) (footprints regS))
 
     -- the two are within r
     abbrev near : Bool
@@ -167,8 +168,8 @@ module _ (g : Grid) (regR tailR regS tailS : List ℕ) (okR : Accepted g regR) (
         ∙ each-same _ _ (tiles g) (λ u. filter-each (samePair (i, j)) _ classes
         ∙ each-class _ _ (λ a ha. filter-each (samePair (i, j)) _ classes
         ∙ each-class _ _ (λ b hb.
-        filter-filter (samePair (i, j)) (pairedIn g regR regS r (runNo t a) (runNo u b)) (pairsOf (footprints regR) (footprints regS))
-        ∙ test-out (pairedIn g regR regS r (runNo t a) (runNo u b)) (i, j) (pairsOf (footprints regR) (footprints regS))
+        filter-filter (samePair (i, j)) (pairedIn g regR regS r (runNo t a) (runNo u b)) (pairs (footprints regR) (footprints regS))
+        ∙ test-out (pairedIn g regR regS r (runNo t a) (runNo u b)) (i, j) (pairs (footprints regR) (footprints regS))
         ∙ ap (λ (x : Bool). only x once) (its-runs t u a b ha hb)))))
 
     -- these runs are on the grid

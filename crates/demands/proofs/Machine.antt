@@ -10,7 +10,7 @@ use borrow.Author.Tests.{le-leb}
 use Rattle.laws.specs.Lists.{each}
 use Rattle.laws.proofs.Members.{mem-filter}
 use Rattle.laws.proofs.Ordered.{insAll, length-insAll}
-use Rattle.laws.proofs.Forest.{walk-first, walk-next, rest-next}
+use Rattle.laws.proofs.Forest.{walk-first, walk-next}
 use Rattle.rules.specs.Sizes.{tileCount}
 use Rattle.rules.specs.Register.{count}
 use Rattle.rules.specs.Tables.{Tables, builtTables}
@@ -27,7 +27,7 @@ use Rattle.demands.proofs.Opens.{forest, brought}
 use Rattle.demands.proofs.Everything.{waits, RestOf}
 use Rattle.demands.proofs.Room.{roomy}
 use Rattle.demands.proofs.Moves.{group-moves, tile-moves, footprint-moves}
-use Rattle.demands.proofs.Taking.{footprintsIn, leftAfter, wantedAfter, placeAfter}
+use Rattle.demands.proofs.Taking.{footprintsIn, leftAfter, wantedAfter, placeAfter, next}
 
 module _ (g : Grid) (reg : List ℕ) (q : Point) where
   -- items as waiting rows
@@ -51,9 +51,6 @@ module _ {g : Grid} {reg : List ℕ} {q : Point} (S : Around g reg q) (tail : Li
   after : (c : ℕ) (x : Item) (l : List Item) → RestOf g reg q c (x ∷ l) → insAll (key g reg q) (brings g reg q x) (W c l) ≡ W (key g reg q x) l
   after c x l R = walk-next (key g reg q) (Valid g reg q) (parent g reg q) (brings g reg q) (forest S) c x l R
 
-  next : (c : ℕ) (x : Item) (l : List Item) → RestOf g reg q c (x ∷ l) → RestOf g reg q (key g reg q x) l
-  next c x l R = rest-next (key g reg q) (Valid g reg q) (parent g reg q) (brings g reg q) (forest S) c x l R
-
   -- a group or a tile is taken
   opens : (c j : ℕ) (x : Item) (l : List Item) (o : List ℕ) → RestOf g reg q c (x ∷ l)
       → move g T q (waitingRow g reg q x) ≡ bring (rowsOf g reg q (brings g reg q x))
@@ -63,7 +60,7 @@ module _ {g : Grid} {reg : List ℕ} {q : Point} (S : Around g reg q) (tail : Li
       let n : insAll (key g reg q) (brings g reg q x) (W c l) ≡ W (key g reg q x) l = after c x l R in
       let fits : length (rowsOf g reg q (W c l)) + length (rowsOf g reg q (brings g reg q x)) ≤ whole =
       rw (length-map (W c l) (waitingRow g reg q), length-map (brings g reg q x) (waitingRow g reg q), ← length-insAll (key g reg q) (brings g reg q x) (W c l), n)
-      (le-trans (roomy S (key g reg q x) l (next c x l R)) room) in
+      (le-trans (roomy S (key g reg q x) l (next S c x l R)) room) in
       ap (λ (w : List Item). finish g T q whole (machine (rowsOf g reg q w) o (suc j) false)) (first c x l R)
       ∙ finish-step g T q whole (machine (waitingRow g reg q x ∷ rowsOf g reg q (W c l)) o (suc j) false) refl
       ∙ rw (e, le-leb _ _ fits)
@@ -93,11 +90,11 @@ module _ {g : Grid} {reg : List ℕ} {q : Point} (S : Around g reg q) (tail : Li
   ask-is (suc j) c [] o R = finish-still g T q whole (machine [] o (suc j) false) refl ∙ rw (append-nil o)
   ask-is (suc j) c (Group d k ∷ l) o R =
       opens c j (Group d k) l o R (group-moves S tail d k (R .sound (Group d k) (List·Memᴰ·head refl)))
-      ∙ ask-is (suc j) (key g reg q (Group d k)) l o (next c (Group d k) l R)
+      ∙ ask-is (suc j) (key g reg q (Group d k)) l o (next S c (Group d k) l R)
   ask-is (suc j) c (Tile t ∷ l) o R =
       opens c j (Tile t) l o R (tile-moves S tail t (R .sound (Tile t) (List·Memᴰ·head refl)))
-      ∙ ask-is (suc j) (key g reg q (Tile t)) l o (next c (Tile t) l R)
+      ∙ ask-is (suc j) (key g reg q (Tile t)) l o (next S c (Tile t) l R)
   ask-is (suc j) c (Footprint i ∷ l) o R =
       hands c j i l o R
-      ∙ ask-is j (key g reg q (Footprint i)) l (o ++ written g reg q i) (next c (Footprint i) l R)
+      ∙ ask-is j (key g reg q (Footprint i)) l (o ++ written g reg q i) (next S c (Footprint i) l R)
       ∙ rw (append-assoc o (written g reg q i) (each (written g reg q) (take j (footprintsIn l))))

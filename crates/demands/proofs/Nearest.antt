@@ -29,7 +29,7 @@ use Rattle.rules.specs.declared.Item.the-variants.{Group, Tile, Footprint}
 use Rattle.rules.specs.declared.Three.{Three}
 use Rattle.rules.proofs.Keys.{rows-insAll}
 use Rattle.demands.specs.Asking.{rowsWritten, lastSquare, waitingNow}
-use Rattle.demands.proofs.Around.{Around, key, Valid, parent, brings, small, one-key, key-pos}
+use Rattle.demands.proofs.Around.{Around, key, Valid, parent, brings, small, one-key, key-pos, same-footprint}
 use Rattle.demands.proofs.Opens.{forest}
 use Rattle.demands.proofs.Everything.{ordered, waits, RestOf, all-left, footprint-there, there-footprint}
 use Rattle.demands.proofs.Start.{start-front}
@@ -114,13 +114,10 @@ module _ {g : Grid} {reg : List ℕ} {q : Point} (S : Around g reg q) where
       back (Tile t) v e = let u : _≡_ {A = ℕ} 0 1 = cc in absurd (omega arith)
       back (Footprint i) v e = Memᴰ·map Footprint (there-footprint S i v)
 
-      same : (a b : ℕ) → Footprint a ≡ Footprint b → a ≡ b
-      same a b e = cc
-
       apart : Apart K (map Footprint (footprints reg))
       apart =
           apart-map K Footprint (footprints reg) (unfold footprints in rw (filter-all (λ (i : ℕ). true) (upTo (count reg)) (λ z m. refl)) at (apart-filter (λ (i : ℕ). true) 0 (count reg)))
-          (λ a b ma mb e. same a b (one-key S (Footprint a) (Footprint b) (footprint-there S a ma) (footprint-there S b mb) e))
+          (λ a b ma mb e. same-footprint a b (one-key S (Footprint a) (Footprint b) (footprint-there S a ma) (footprint-there S b mb) e))
 
   -- a footprint in order is one of the register
   pub in-order-lt : (i : ℕ) → List·Memᴰ i (inOrder g reg q) → i < count reg

@@ -25,11 +25,11 @@ use Rattle.rules.specs.declared.Point.{Point}
 use Rattle.rules.specs.declared.Direction.{Direction}
 use Rattle.rules.specs.declared.Item.{Item}
 use Rattle.rules.specs.declared.Item.the-variants.{Group, Tile, Footprint}
-use Rattle.rules.proofs.Report.{report-below}
+use Rattle.rules.proofs.Report.{own-column, own-row, report-below}
 use Rattle.rules.proofs.Items.{group-before-next, group-before-tile, tile-before-footprint}
 use Rattle.rules.proofs.Ring.{ring-there, ring-back, exists-less, exists-in, not-centre}
 use Rattle.rules.proofs.Rings.{tile-farther, next-farther, footprint-farther}
-use Rattle.demands.proofs.Around.{Around, key, Valid, directionIn, levelIn, groupOf, tileFor, parent, brings, sizes, good, own-column, own-row, off-centre, in-range, one-key}
+use Rattle.demands.proofs.Around.{Around, key, Valid, directionIn, levelIn, groupOf, tileFor, parent, brings, sizes, good, column-lt, off-centre, in-range, one-key, same-tile}
 use Rattle.demands.proofs.Reported.{of-tile, reported-in, apart-footprints}
 
 module _ {g : Grid} {reg : List ℕ} {q : Point} (S : Around g reg q) where
@@ -65,7 +65,7 @@ module _ {g : Grid} {reg : List ℕ} {q : Point} (S : Around g reg q) where
   -- the point's own is in none
   pub not-own : (d : Direction) (l t : ℕ) → 0 < l → tileInGroup g q d l t ≡ true → t ≡ tileOf g q → ⊥
   unfolding tileInGroup
-  not-own d l t h e f = not-centre (column g (q .x)) (column g (q .y)) d l (columnOf g t) (rowOf g t) h e (own-column S t f) (own-row S t f)
+  not-own d l t h e f = not-centre (column g (q .x)) (column g (q .y)) d l (columnOf g t) (rowOf g t) h e (own-column g (sizes S .side-pos) q (column-lt S) t f) (own-row g (sizes S .side-pos) q (column-lt S) t f)
 
   -- ---- an item lies later than what brings it
 
@@ -176,16 +176,13 @@ module _ {g : Grid} {reg : List ℕ} {q : Point} (S : Around g reg q) where
   apart-group d l v =
       apart-append K (map Tile (groupTiles g q d l)) (groupIf g q (l + 1) d)
       (apart-map K Tile (groupTiles g q d l) (unfold groupTiles tiles in apart-filter (tileInGroup g q d l) 0 (tileCount g))
-      (λ a b ma mb e. same a b (one-key S (Tile a) (Tile b) (valid a ma) (valid b mb) e)))
+      (λ a b ma mb e. same-tile a b (one-key S (Tile a) (Tile b) (valid a ma) (valid b mb) e)))
       (apart-next d (l + 1))
       (λ y z p r e. clash (Memᴰ·of-map Tile (groupTiles g q d l) p) (next-group d (l + 1) r .0)
       (one-key S y z (from-group d l y v (Memᴰ·append-left (groupIf g q (l + 1) d) p) .0) (from-group d l z v (Memᴰ·append-right (map Tile (groupTiles g q d l)) r) .0) e))
     where
       valid : (a : ℕ) → List·Memᴰ a (groupTiles g q d l) → There (Tile a)
       valid a m = from-group d l (Tile a) v (Memᴰ·append-left (groupIf g q (l + 1) d) (Memᴰ·map Tile m)) .0
-
-      same : (a b : ℕ) → Tile a ≡ Tile b → a ≡ b
-      same a b e = cc
 
       clash : {y z : Item} → (t : ℕ) × List·Memᴰ t (groupTiles g q d l) × (Tile t ≡ y) → z ≡ Group d (l + 1) → y ≡ z → ⊥
       clash {y} {z} o e f =

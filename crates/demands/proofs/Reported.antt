@@ -2,19 +2,16 @@
 use mathlib.Core.Path.{_≡_, refl, sym, ap, _∙_}
 use mathlib.Core.Bool.{true, _&&_}
 use mathlib.Core.List.{List, map, List·Memᴰ, Memᴰ·map, Memᴰ·of-map}
-use Prim.Native.Nat.{ℕ, _+_, _*_, _/_, _%_, _≤_, _<_, zero-le}
+use Prim.Native.Nat.{ℕ, _+_, _*_, _/_, _≤_, _<_, zero-le}
 use native.Mathlib.Nat.{le-add-right}
 use native.Mathlib.Omega.{arith}
-use borrow.Author.Tests.{eqb-true, eq-eqb, le-ltb}
+use borrow.Author.Tests.{eqb-true, eq-eqb}
 use Rattle.laws.specs.Lists.{from, upTo, each}
 use Rattle.laws.proofs.Tests.{fst-true, snd-true, both-true}
 use Rattle.laws.proofs.Members.{mem-filter, filter-mem, each-mem, mem-each}
 use Rattle.laws.proofs.Ranges.{mem-from, from-mem}
 use Rattle.laws.proofs.Apart.{Apart, self, apart-filter, apart-each, apart-map}
-use Rattle.laws.proofs.Filters.{filter-all}
-use Rattle.rules.specs.Sizes.{column, rowOf, columnOf, tileOf}
-use Rattle.rules.specs.Span.{place}
-use Rattle.rules.specs.Classes.{classOf, allowed, allowedIn}
+use Rattle.rules.specs.Classes.{classOf, allowed}
 use Rattle.rules.specs.Register.{count, footprints, rectangle}
 use Rattle.rules.specs.Tables.{runNo, tileRuns, stands, builtRun}
 use Rattle.rules.specs.Search.{allowedRun, allowedRuns, reportRun}
@@ -24,22 +21,9 @@ use Rattle.rules.specs.declared.Item.{Item}
 use Rattle.rules.specs.declared.Item.the-variants.{Footprint}
 use Rattle.rules.proofs.Classes.{class-below}
 use Rattle.rules.proofs.Report.{given-by-one-run, report-run-tile}
-use Rattle.demands.proofs.Around.{Around, key, tileFor, sizes, good, own-column, own-row, one-key}
+use Rattle.demands.proofs.Around.{Around, key, tileFor, sizes, good, one-key, same-footprint}
 
--- every run of the point's own tile is allowed
 module _ {g : Grid} {reg : List ℕ} {q : Point} (S : Around g reg q) where
-  pub own-runs : allowedRuns g q (tileOf g q) ≡ tileRuns (tileOf g q)
-  unfolding allowedRuns tileRuns allowedRun allowedIn allowed place
-  own-runs = filter-all (allowedRun g q) (from (16 * tileOf g q) 16) (λ k m. all-given k (mem-from (16 * tileOf g q) 16 m))
-    where
-      place-own : (c d : ℕ) → c ≡ d → (px py : ℕ) → px ≡ py → (class : ℕ) → allowed (place c d) (place px py) class ≡ true
-      place-own c d e px py f class = rw (e, f, le-ltb d d (omega arith), le-ltb py py (omega arith))
-
-      all-given : (k : ℕ) → (16 * tileOf g q ≤ k) × (k < 16 * tileOf g q + 16) → allowedRun g q k ≡ true
-      all-given k h =
-          let e : k / 16 ≡ tileOf g q = omega arith in
-          place-own (columnOf g (k / 16)) (column g (q .x)) (own-column S (k / 16) e) (rowOf g (k / 16)) (column g (q .y)) (own-row S (k / 16) e) (k % 16)
-
   -- what stands in an allowed run of a tile is reported by that run, and by the tile
   pub in-allowed : (t k i : ℕ) → List·Memᴰ k (allowedRuns g q t) → List·Memᴰ i (builtRun g reg k)
       → (i < count reg) × (k ≡ reportRun g q (rectangle g reg i)) × (tileFor g reg q i ≡ t)
@@ -110,7 +94,4 @@ module _ {g : Grid} {reg : List ℕ} {q : Point} (S : Around g reg q) where
   pub apart-footprints : (t : ℕ) → Apart (key g reg q) (map Footprint (each (builtRun g reg) (allowedRuns g q t)))
   apart-footprints t =
       apart-map (key g reg q) Footprint (each (builtRun g reg) (allowedRuns g q t)) (apart-numbers t)
-      (λ a b ma mb e. same a b (one-key S (Footprint a) (Footprint b) (number-lt t a ma) (number-lt t b mb) e))
-    where
-      same : (a b : ℕ) → Footprint a ≡ Footprint b → a ≡ b
-      same a b e = cc
+      (λ a b ma mb e. same-footprint a b (one-key S (Footprint a) (Footprint b) (number-lt t a ma) (number-lt t b mb) e))

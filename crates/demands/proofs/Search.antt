@@ -11,7 +11,7 @@ use lib.ListN.{length}
 use borrow.Author.Tests.{eqb-true, le-ltb, lt-ltb}
 use Rattle.laws.specs.Lists.{filter, upTo, each, only, times}
 use Rattle.laws.proofs.Tests.{by-le}
-use Rattle.laws.proofs.Lists.{filter-each, each-filter, filter-filter, only-filter, each-nothing}
+use Rattle.laws.proofs.Lists.{filter-each, each-filter, filter-filter, only-filter, each-empty}
 use Rattle.laws.proofs.Ranges.{filter-from, each-from, pick, each-one}
 use Rattle.rules.specs.Sizes.{badPoint, mostRadius}
 use Rattle.rules.specs.Distance.{within, point}
@@ -87,7 +87,7 @@ module _ (g : Grid) (reg tail : List ℕ) (ok : Accepted g reg) (q : Point) (r :
       in-one-run : each (λ k. only (ltb i (count reg) && (eqb k run && isHit g reg q r i)) (i ∷ [])) (upTo (runs g)) ≡ only (ltb i (count reg) && isHit g reg q r i) (i ∷ [])
       in-one-run =
           by-le (count reg) i
-          (λ h. rw (le-ltb i (count reg) h) (each-nothing (upTo (runs g))))
+          (λ h. rw (le-ltb i (count reg) h) (each-empty _ (upTo (runs g)) (λ _. refl)))
           (λ h. rw (lt-ltb i (count reg) h)
           (each-one (isHit g reg q r i) (i ∷ []) run 0 (runs g) zero-le (rw zero-add (report-run-below g pos q (rectangle g reg i) (good-footprint g reg ok i h)))))
 

@@ -3,7 +3,7 @@
 use mathlib.Core.Path.{_≡_, sym, ap, _∙_}
 use mathlib.Core.Bool.{false}
 use mathlib.Core.List.{List, [], _++_, map, List·Memᴰ·not-nil}
-use Prim.Native.Nat.{ℕ, _+_, _≤_}
+use Prim.Native.Nat.{ℕ, _≤_}
 use lib.ListN.{length}
 use borrow.Author.Tests.{lt-leb, le-ltb}
 use Rattle.laws.specs.Lists.{each}
@@ -21,9 +21,10 @@ use Rattle.rules.specs.declared.Point.{Point}
 use Rattle.rules.specs.declared.Answer.the-variants.{Done}
 use Rattle.rules.specs.declared.Item.the-variants.{Footprint}
 use Rattle.rules.proofs.Built.{no-damage-in, good-lengths}
+use Rattle.rules.proofs.Report.{own-runs}
 use Rattle.rules.proofs.Keys.{rows-insAll}
-use Rattle.demands.proofs.Around.{Around, small}
-use Rattle.demands.proofs.Reported.{own-runs, apart-numbers, number-lt}
+use Rattle.demands.proofs.Around.{Around, sizes, column-lt, small}
+use Rattle.demands.proofs.Reported.{apart-numbers, number-lt}
 use Rattle.demands.proofs.Everything.{ordered, roots, waits, root-of, start-waits}
 use Rattle.demands.proofs.Moves.{run-of-tile, tile-brings, own-tile-lt}
 
@@ -36,7 +37,7 @@ module _ {g : Grid} {reg : List ℕ} {q : Point} (S : Around g reg q) (tail : Li
 
   entries-are : startEntries g T q ≡ inTq
   unfolding startEntries
-  entries-are = ap (each (runAt T)) (sym (own-runs S)) ∙ tile-brings S tail (tileOf g q) (own-tile-lt S tail)
+  entries-are = ap (each (runAt T)) (sym (own-runs g (sizes S .side-pos) q (column-lt S))) ∙ tile-brings S tail (tileOf g q) (own-tile-lt S tail)
 
   -- the start's front: what waits before anything is taken
   pub start-front : startFront g T q ≡ map (waitingRow g reg q) (waits g reg q 0 (ordered g reg q))

@@ -134,7 +134,7 @@ module _ {g : Grid} {reg : List ℕ} {q : Point} (S : Around g reg q) where
   abbrev placed : ℕ → ℕ → List Item → ℕ
   placed j c l = placeAfter g reg q j c l
 
-  next : (c : ℕ) (x : Item) (l : List Item) → RestOf g reg q c (x ∷ l) → RestOf g reg q (key g reg q x) l
+  pub next : (c : ℕ) (x : Item) (l : List Item) → RestOf g reg q c (x ∷ l) → RestOf g reg q (key g reg q x) l
   next c x l R = rest-next (key g reg q) (Valid g reg q) (parent g reg q) (brings g reg q) (forest S) c x l R
 
   -- what is left is all that lies above the place reached

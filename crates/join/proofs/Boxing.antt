@@ -11,7 +11,8 @@ use lib.Seq.{drop-cons}
 use borrow.Author.Tests.{not-true, le-leb}
 use Rattle.laws.specs.Lists.{all}
 use Rattle.laws.proofs.Tests.{fst-true, snd-true, both-true}
-use Rattle.laws.proofs.Lists.{each-on, each-nothing}
+use Rattle.laws.proofs.Computed.{all-mem}
+use Rattle.laws.proofs.Lists.{each-on, each-empty}
 use Rattle.rules.specs.Distance.{within}
 use Rattle.rules.specs.Register.{rectangle}
 use Rattle.rules.specs.Join.{Pair, lists}
@@ -19,7 +20,7 @@ use Rattle.rules.specs.JoinSteps.{inSpan, inBox, around, aroundSpan, boxed}
 use Rattle.rules.specs.declared.Grid.{Grid}
 use Rattle.rules.specs.declared.Rect.{Rect}
 use Rattle.rules.specs.declared.Span.{Span}
-use Rattle.rules.proofs.JoinBoxes.{far-in, in-all, boxed-holds}
+use Rattle.rules.proofs.JoinBoxes.{far-in, boxed-holds}
 use Rattle.grid.specs.Tiles.{Near}
 use Rattle.join.specs.Boxes.{Holds, byDistance, apart}
 use Rattle.join.specs.Levels.{onePair, entryPairs, runsPairs}
@@ -86,13 +87,13 @@ module _ (g : Grid) (regR regS : List ℕ) (r k m : ℕ) (a b : Rect) (h : apart
       → entryPairs g regR regS r k m i ls ≡ []
   unfolding entryPairs
   entry-apart i ls e f =
-      each-on (onePair g regR regS r k m i) (λ _. []) ls (λ j n. one-apart i j e (in-all (λ j. inBox b (rectangle g regS j)) ls f n))
-      ∙ each-nothing ls
+      each-on (onePair g regR regS r k m i) (λ _. []) ls (λ j n. one-apart i j e (all-mem (λ j. inBox b (rectangle g regS j)) ls f n))
+      ∙ each-empty _ ls (λ _. refl)
 
   pub runs-apart : (lr ls : List ℕ) → all (λ i. inBox a (rectangle g regR i)) lr ≡ true → all (λ j. inBox b (rectangle g regS j)) ls ≡ true
       → runsPairs g regR regS r k m lr ls ≡ []
   unfolding runsPairs
   runs-apart lr ls e f =
       each-on (λ i. entryPairs g regR regS r k m i ls) (λ _. []) lr
-      (λ i n. entry-apart i ls (in-all (λ i. inBox a (rectangle g regR i)) lr e n) f)
-      ∙ each-nothing lr
+      (λ i n. entry-apart i ls (all-mem (λ i. inBox a (rectangle g regR i)) lr e n) f)
+      ∙ each-empty _ lr (λ _. refl)

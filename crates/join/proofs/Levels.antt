@@ -9,7 +9,7 @@ use lib.ListN.{length}
 use Rattle.laws.specs.Lists.{upTo, each, only}
 use Rattle.laws.proofs.Lists.{each-same, each-filter}
 use Rattle.laws.proofs.Rows.{each-each, each-alone}
-use Rattle.laws.proofs.Pairs.{each-empty}
+use Rattle.laws.proofs.Lists.{each-empty}
 use Rattle.rules.specs.Sizes.{badSizes, tileCount, tiles, rowOf, columnOf}
 use Rattle.rules.specs.Span.{Place, place}
 use Rattle.rules.specs.Classes.{classes, marked, markedIn}
@@ -74,7 +74,7 @@ module _ (g : Grid) (sizes : badSizes g ≡ false) (tr ts : Tables) (r t u a : �
   class-pairs =
       each-filter (markedIn g t u a) (λ b. runPairs g tr ts r (runNo t a) (runNo u b)) classes
       ∙ each-same _ _ classes (λ b.
-      ap (only (markedIn g t u a b)) (run-pairs-by-two g (good-sizes g sizes) tr ts r (runNo t a) (runNo u b)
+      ap (only (markedIn g t u a b)) (run-pairs-by-two g tr ts r (runNo t a) (runNo u b)
       ∙ ap (λ (x : List ℕ). runsPairs g (tr .reg) (ts .reg) r (runNo t a) (runNo u b) x (runAt ts (runNo u b))) (sym e)))
 
   pub class-empty : length l ≡ 0 → classPairs g tr ts r t u a ≡ []

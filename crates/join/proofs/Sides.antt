@@ -11,7 +11,7 @@ use Rattle.laws.proofs.Computed.{all-below}
 use Rattle.laws.proofs.Passing.{all-at}
 use Rattle.rules.specs.Sizes.{badSizes, tileCount}
 use Rattle.rules.specs.Register.{badEntry, badRegister}
-use Rattle.rules.specs.Tables.{Tables, badLengths, badStarts, badEnds, runNo, runs, runStart, runEnd, runAt, goodRun, goodRuns}
+use Rattle.rules.specs.Tables.{Tables, badLengths, badStarts, badEnds, runs, runStart, runEnd, runAt, goodRun, goodRuns}
 use Rattle.rules.specs.declared.Grid.{Grid}
 use Rattle.rules.proofs.Good.{good-sizes}
 use Rattle.grid.proofs.Bounds.{square-most}
@@ -24,10 +24,6 @@ entry-good g reg l i h e = not-true _ (all-at (λ i. not (badEntry g reg i)) l i
 pub tiles-most : (g : Grid) → badSizes g ≡ false → tileCount g ≤ 4096
 unfolding tileCount
 tiles-most g s = square-most (g .n) (good-sizes g s .n-most)
-
-pub run-below : (g : Grid) (t a : ℕ) → t < tileCount g → a < 16 → runNo t a < runs g
-unfolding runNo runs
-run-below g t a h k = omega arith
 
 module _ (g : Grid) (t : Tables) (s : Sound g t) (k : ℕ) (h : k < runs g) where
   run-good : goodRun g t k ≡ true

@@ -3,18 +3,14 @@ use mathlib.Core.Path.{_≡_, refl, sym, ap, _∙_}
 use mathlib.Core.Bool.{Bool, true, false}
 use mathlib.Core.List.{List, [], _∷_}
 use Prim.Native.Nat.{ℕ, suc, _+_, _-_, _*_, _≤_, _<_, zero-le}
-use native.Mathlib.Nat.{le-trans, le-refl, le-of-eq, le-add-right, add-le-add, mul-add, add-mul, mul-zero, zero-mul}
+use native.Mathlib.Nat.{le-trans, le-of-eq, le-add-right, add-le-add, mul-add, add-mul, mul-zero, zero-mul}
 use native.Mathlib.Omega.{arith}
 use lib.ListN.{length, length-append}
-use Rattle.laws.specs.Lists.{keep, filter, upTo, from, each, only, total}
+use Rattle.laws.specs.Lists.{keep, filter, upTo, from, each, total}
 use Rattle.laws.proofs.Lists.{each-append}
 use Rattle.laws.proofs.Ranges.{from-append, each-snoc}
 
 module _ {A : Type 0} where
-  pub length-only : (b : Bool) (l : List A) → length (only b l) ≤ length l
-  length-only true l = le-refl (length l)
-  length-only false l = zero-le
-
   pub length-filter : (p : A → Bool) (l : List A) → length (filter p l) ≤ length l
   length-filter p [] = zero-le
   length-filter p (x ∷ l) = go (p x) (length-filter p l)

@@ -2,6 +2,9 @@
 use mathlib.Core.Path.{_≡_, refl, sym, ap, ap₂, _∙_}
 use mathlib.Core.Bool.{Bool, true, false, _&&_}
 use mathlib.Core.List.{List, [], _∷_, _++_, append-assoc, List·Memᴰ, List·Memᴰ·head, List·Memᴰ·tail}
+use Prim.Native.Nat.{_≤_}
+use native.Mathlib.Nat.{not-suc-le-zero}
+use lib.ListN.{length}
 use Rattle.laws.specs.Lists.{keep, filter, each, only, all}
 
 module _ {A : Type 0} where
@@ -54,10 +57,6 @@ module _ {A : Type 0} where
   each-same f h [] e = refl
   each-same f h (x ∷ l) e = ap₂ _++_ (e x) (each-same f h l e)
 
-  pub only-each₂ : {B C : Type 0} (b : Bool) (f : B → C → List A) (l : List B) (m : List C)
-      → only b (each (λ x. each (f x) m) l) ≡ each (λ x. each (λ y. only b (f x y)) m) l
-  only-each₂ b f l m = only-each b _ l ∙ each-same _ _ l (λ x. only-each b (f x) m)
-
   pub pairs-filter : {B C : Type 0} (p : B → Bool) (q : C → Bool) (f : B → C → List A) (l : List B) (m : List C)
       → each (λ x. each (f x) (filter q m)) (filter p l) ≡ each (λ x. each (λ y. only (p x) (only (q y) (f x y))) m) l
   pairs-filter p q f l m =
@@ -76,10 +75,16 @@ pub each-on : {A B : Type 0} (f h : B → List A) (l : List B) → ((x : B) → 
 each-on f h [] e = refl
 each-on f h (x ∷ l) e = ap₂ _++_ (e x (List·Memᴰ·head refl)) (each-on f h l (λ y m. e y (List·Memᴰ·tail m)))
 
-pub each-nothing : {A B : Type 0} (l : List B) → each {B = A} (λ (x : B). []) l ≡ []
-each-nothing [] = refl
-each-nothing (x ∷ l) = each-nothing l
+-- nothing, laid behind itself any number of times
+pub each-empty : {A B : Type 0} (f : B → List A) (l : List B) → ((x : B) → f x ≡ []) → each f l ≡ []
+each-empty f [] h = refl
+each-empty f (x ∷ l) h = rw (h x) (each-empty f l h)
 
 pub all-on : {A : Type 0} (p : A → Bool) (l : List A) → ((x : A) → List·Memᴰ x l → p x ≡ true) → all p l ≡ true
 all-on p [] h = refl
 all-on p (x ∷ l) h = rw (h x (List·Memᴰ·head refl)) (all-on p l (λ y m. h y (List·Memᴰ·tail m)))
+
+-- a list of no length is empty
+pub empty : {A : Type 0} (l : List A) → length l ≤ 0 → l ≡ []
+empty [] h = refl
+empty (x ∷ l) h = absurd (not-suc-le-zero h)

@@ -1,7 +1,7 @@
 -- A machine whose weight falls until it has halted has halted after as many steps as it weighs. Assumes nothing.
 use mathlib.Core.Path.{_≡_, refl, sym, ap, _∙_}
 use mathlib.Core.Bool.{Bool, true, false}
-use Prim.Native.Nat.{ℕ, zero, suc, _-_, _≤_, _<_}
+use Prim.Native.Nat.{ℕ, zero, suc, _≤_, _<_}
 use native.Mathlib.Nat.{not-suc-le-zero}
 use native.Mathlib.Omega.{arith}
 use Rattle.laws.specs.Lists.{runFor}
@@ -34,10 +34,3 @@ module _ {S : Type 0} (halted : S → Bool) (step : S → S) where
         by-bool (halted m)
         (λ e. stands-still (suc k) m e ∙ sym (stands-still (suc l) m e))
         (λ e. let f = falls m e in goes-on k m e ∙ enough k l (step m) (omega arith) (omega arith) ∙ sym (goes-on l m e))
-
-    -- what is left to do is the same after a step
-    pub same-after-step : (m : S) → halted m ≡ false → runFor halted step (weight m) m ≡ runFor halted step (weight (step m)) (step m)
-    same-after-step m e =
-        let f = falls m e in
-        let g : weight m ≡ suc (weight m - 1) = omega arith in
-        ap (λ (k : ℕ). runFor halted step k m) g ∙ goes-on (weight m - 1) m e ∙ enough (weight m - 1) (weight (step m)) (step m) (omega arith) (omega arith)

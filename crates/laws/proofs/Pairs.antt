@@ -106,8 +106,3 @@ module _ {A : Type 0} where
       ∙ one-in (eqb t′ t && eqb u′ u) w l a n ha)
       ∙ one-in (eqb t′ t) w l u m hu)
       ∙ each-one w l t 0 k zero-le (rw zero-add ht)
-
-  -- nothing, laid behind itself any number of times
-  pub each-empty : {B : Type 0} (f : B → List A) (l : List B) → ((x : B) → f x ≡ []) → each f l ≡ []
-  each-empty f [] h = refl
-  each-empty f (x ∷ l) h = rw (h x) (each-empty f l h)

@@ -5,7 +5,7 @@ use mathlib.Core.List.{List, [], _∷_, _++_}
 use Prim.Native.Nat.{ℕ, suc, _+_, _-_, _≤_, _<_}
 use native.Mathlib.Numerals.{add-one}
 use native.Mathlib.Omega.{arith}
-use lib.ListN.{length, take, drop, getD, length-take}
+use lib.ListN.{length, take, drop, getD}
 use lib.Seq.{drop-cons, drop-drop, take-add}
 use Rattle.laws.specs.Lists.{all, part}
 
@@ -28,6 +28,3 @@ module _ (l : List ℕ) where
       let t : e - a ≡ (b - a) + (e - b) = omega arith in
       sym (ap (λ (n : ℕ). take n (drop a l)) t ∙ take-add (b - a) (e - b) (drop a l)
       ∙ ap (λ (m : List ℕ). part l a b ++ take (e - b) m) (drop-drop (b - a) a l ∙ ap (λ (n : ℕ). drop n l) (sym s)))
-
-  pub part-length : (a e : ℕ) → length (part l a e) ≤ e - a
-  part-length a e = omega (arith, length-take (e - a) (drop a l))

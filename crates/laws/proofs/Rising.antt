@@ -4,22 +4,19 @@ use mathlib.Core.Path.{_≡_, refl, sym, ap, _∙_, subst}
 use mathlib.Core.Bool.{Bool, true, false, _&&_}
 use mathlib.Core.List.{List, [], _∷_}
 use Prim.Native.Nat.{ℕ, zero, suc, _+_, _≤_, zero-le, suc-le-suc}
-use native.Mathlib.Nat.{lt-irrefl, le-refl, le-of-suc-le-suc, not-suc-le-zero}
+use native.Mathlib.Nat.{lt-irrefl, le-refl, le-of-suc-le-suc}
 use native.Mathlib.Omega.{arith}
 use lib.Dec.{leb, ltb}
 use lib.ListN.{length}
 use borrow.Author.Tests.{leb-true, ltb-true, le-leb, lt-ltb}
 use Rattle.laws.specs.Lists.{keep, filter, from}
+use Rattle.laws.proofs.Lists.{empty}
 use Rattle.laws.specs.Rising.{rising, below}
 use Rattle.laws.proofs.Tests.{by-le, fst-true, snd-true, both-true}
 
 -- no longer, and the same where it is as long
 abbrev pub Fits : List ℕ → List ℕ → Type 0
 Fits l m = (length l ≤ length m) × (length m ≤ length l → l ≡ m)
-
-empty : (l : List ℕ) → length l ≤ 0 → l ≡ []
-empty [] h = refl
-empty (x ∷ l) h = absurd (not-suc-le-zero h)
 
 -- one more before both, or before the longer alone
 fits-more : (i : ℕ) (l m : List ℕ) → Fits l m → Fits (i ∷ l) (i ∷ m)

@@ -7,8 +7,10 @@ use native.Mathlib.Nat.{zero-add, add-zero, add-suc, suc-mul, zero-mul}
 use native.Mathlib.Omega.{arith}
 use lib.Arith.{digits-div, digits-mod}
 use Rattle.laws.specs.Lists.{keep, filter, from, upTo, each, only}
-use Rattle.laws.proofs.Lists.{filter-append, filter-none, each-append}
-use Rattle.laws.proofs.Ranges.{from-append, from-snoc, filter-from, each-from}
+use Rattle.laws.proofs.Lists.{each-append}
+use Rattle.laws.proofs.Filters.{filter-all}
+use Rattle.laws.proofs.Boxes.{filter-window}
+use Rattle.laws.proofs.Ranges.{mem-from, from-append, from-snoc, each-from}
 
 module _ {A : Type 0} where
   -- what a list of lists' elements bring
@@ -65,20 +67,10 @@ module _ {A : Type 0} where
           ∙ sym (each-shift (λ k. f (k / n) (k % n)) (m * n) 0 n)
           ∙ rw (add-zero (m * n))
 
-filter-all : (l : List ℕ) → filter (λ (x : ℕ). true) l ≡ l
-filter-all [] = refl
-filter-all (x ∷ l) = ap (λ (t : List ℕ). x ∷ t) (filter-all l)
-
 -- a test that passes in one window of a range leaves that window
 pub window : (p : ℕ → Bool) (a k m : ℕ) → ((j : ℕ) → j < a → p j ≡ false) → ((j : ℕ) → a ≤ j → j < a + k → p j ≡ true)
     → ((j : ℕ) → a + k ≤ j → j < a + k + m → p j ≡ false) → filter p (upTo (a + k + m)) ≡ from a k
 window p a k m below here above =
-    ap (filter p) (from-append 0 (a + k) m ∙ ap₂ _++_ (from-append 0 a k) (ap (λ (n : ℕ). from n m) (zero-add (a + k))))
-    ∙ filter-append p (upTo a ++ from (0 + a) k) (from (a + k) m)
-    ∙ ap₂ _++_
-    (filter-append p (upTo a) (from (0 + a) k)
-    ∙ ap₂ _++_
-    (filter-from p (λ _. false) 0 a (λ j _ h. below j (omega arith)) ∙ filter-none (upTo a))
-    (filter-from p (λ _. true) (0 + a) k (λ j g h. here j (omega arith) (omega arith)) ∙ filter-all (from (0 + a) k) ∙ ap (λ (n : ℕ). from n k) (zero-add a)))
-    (filter-from p (λ _. false) (a + k) m above ∙ filter-none (from (a + k) m))
-    ∙ append-nil (from a k)
+    filter-window p 0 a k m (λ j _ h. below j (omega arith)) (λ j g h. above j (omega arith) (omega arith))
+    ∙ ap (λ (n : ℕ). filter p (from n k)) (zero-add a)
+    ∙ filter-all p (from a k) (λ j n. let b = mem-from a k n in here j (b .0) (b .1))

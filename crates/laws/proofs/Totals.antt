@@ -1,11 +1,10 @@
--- Sums over a list, and the length of a filter and of a part. Assumes nothing.
+-- Sums over a list, and the length of a part. Assumes nothing.
 use mathlib.Core.Path.{_≡_, refl, ap}
-use mathlib.Core.Bool.{Bool, true, false}
 use mathlib.Core.List.{List, [], _∷_, _++_, map}
-use Prim.Native.Nat.{ℕ, suc, _+_, _-_, _*_, _≤_}
+use Prim.Native.Nat.{ℕ, _+_, _-_, _*_, _≤_}
 use native.Mathlib.Omega.{arith}
 use lib.ListN.{length, drop, length-take, length-drop}
-use Rattle.laws.specs.Lists.{keep, filter, part, total}
+use Rattle.laws.specs.Lists.{part, total}
 
 module _ {A : Type 0} where
   pub total-append : (f : A → ℕ) (l m : List A) → total f (l ++ m) ≡ total f l + total f m
@@ -24,14 +23,6 @@ module _ {A : Type 0} where
   pub total-rises : (f h : A → ℕ) (l : List A) → ((a : A) → f a ≤ h a) → total f l ≤ total h l
   total-rises f h [] e = omega arith
   total-rises f h (a ∷ l) e = omega (arith, e a, total-rises f h l e)
-
-  pub length-filter : (p : A → Bool) (l : List A) → length (filter p l) ≤ length l
-  length-filter p [] = omega arith
-  length-filter p (a ∷ l) = go (p a) (length-filter p l)
-    where
-      go : (b : Bool) → length (filter p l) ≤ length l → length (keep b a (filter p l)) ≤ suc (length l)
-      go true h = omega arith
-      go false h = omega arith
 
   pub length-part : (l : List A) (a e : ℕ) → length (part l a e) ≤ length l
   length-part l a e = omega (arith, length-take (e - a) (drop a l), length-drop a l)

@@ -10,7 +10,8 @@ use lib.ListN.{length}
 use borrow.Author.Tests.{eqb-false, ne-eqb}
 use Rattle.laws.specs.Lists.{from, each, total}
 use Rattle.laws.proofs.Tests.{by-le, neither}
-use Rattle.laws.proofs.Totals.{total-append, total-map, total-same, length-filter, length-part}
+use Rattle.laws.proofs.Totals.{total-append, total-map, total-same, length-part}
+use Rattle.laws.proofs.Lengths.{length-filter}
 use Rattle.laws.proofs.Counting.{length-each}
 use Rattle.laws.proofs.Ranges.{length-from}
 use Rattle.rules.specs.Sizes.{mostTiles, tileCount, tiles}

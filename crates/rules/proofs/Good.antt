@@ -1,19 +1,21 @@
 -- What the judges of sizes, registers and points leave: bounds, and rectangles that lie on the grid. Laws use no more of a rectangle.
 -- Assumes nothing.
 use mathlib.Core.Path.{_≡_}
-use mathlib.Core.Bool.{true, false, _||_, not}
-use mathlib.Core.List.{List, [], List·Memᴰ, List·Memᴰ·not-nil}
+use mathlib.Core.Bool.{true, false, _&&_, _||_, not}
+use mathlib.Core.List.{List, [], _++_, List·Memᴰ, List·Memᴰ·not-nil}
 use Prim.Native.Nat.{ℕ, _*_, _%_, _≤_, _<_, zero-le}
 use native.Mathlib.Omega.{arith}
 use lib.Dec.{leb, ltb, eqb}
 use lib.ListN.{length}
 use borrow.Author.Tests.{ltb-false, leb-false, lt-leb}
 use Rattle.laws.specs.Lists.{filter, upTo}
+use Rattle.laws.proofs.Parts.{all-append}
 use Rattle.laws.proofs.Tests.{by-bool, neither}
 use Rattle.laws.proofs.Members.{filter-mem}
 use Rattle.laws.proofs.Ranges.{from-mem}
 use Rattle.rules.specs.Sizes.{mostFootprints, badSizes, offGrid, badPoint}
 use Rattle.rules.specs.Register.{count, footprints, recorded, rectangle, badSpan, badFootprint, badFootprints, badEntry, badRegister}
+use Rattle.rules.specs.Tables.{Tables, goodRun, goodRuns}
 use Rattle.rules.specs.declared.Grid.{Grid}
 use Rattle.rules.specs.declared.Point.{Point}
 use Rattle.rules.specs.declared.Rect.{Rect}
@@ -104,3 +106,8 @@ module _ (g : Grid) (reg : List ℕ) (ok : Accepted g reg) where
   pub may-be-named : (i : ℕ) → i < count reg → badEntry g reg i ≡ false
   unfolding badEntry
   may-be-named i h = rw (lt-leb (count reg) i h) (not-bad i h)
+
+-- runs one behind the other show no damage where none of both does
+pub good-runs-append : (g : Grid) (t : Tables) (ks ms : List ℕ) → goodRuns g t (ks ++ ms) ≡ (goodRuns g t ks && goodRuns g t ms)
+unfolding goodRuns
+good-runs-append g t ks ms = all-append (goodRun g t) ks ms

@@ -8,6 +8,7 @@ use lib.Dec.{leb, ltb, eqb}
 use lib.ListN.{length, drop}
 use borrow.Author.Tests.{leb-true, le-ltb, eqb-true, eq-eqb}
 use Rattle.laws.specs.Lists.{all, each, same}
+use Rattle.laws.proofs.Lists.{empty}
 use Rattle.laws.proofs.Tests.{by-bool, by-le, fst-true, snd-true, clash}
 use Rattle.laws.proofs.Same.{same-true}
 use Rattle.rules.specs.Refusals.{pass, judge}
@@ -50,10 +51,6 @@ one-digit b e =
     let r = digit-range b e in
     let w : 48 + (10 * 0 + (b - 48)) ≡ b = omega arith in
     decimal-one (10 * 0 + (b - 48)) (omega arith) ∙ ap (λ (c : ℕ). c ∷ []) w
-
-empty : (l : List ℕ) → length l ≤ 0 → l ≡ []
-empty [] h = refl
-empty (a ∷ l) h = absurd (omega arith)
 
 -- a leading zero stands alone
 zero-alone : (b : ℕ) (l : List ℕ) → b ≡ 48 → (eqb (suc (length l)) 1 || not (eqb b 48)) ≡ true → l ≡ []

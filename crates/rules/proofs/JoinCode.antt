@@ -1,27 +1,24 @@
--- The join as its loops go: S's tiles around R's by their nine positions, in order, and the marks by position. For tables of any origin.
+-- The join as its loops go: S's tiles around R's by their nine positions, in order, and the pairs of two runs. For tables of any origin.
 -- Assumes nothing.
 use mathlib.Core.Path.{_≡_, refl, sym, ap, ap₂, _∙_}
 use mathlib.Core.Bool.{Bool, true, false, _&&_}
 use mathlib.Core.List.{List, [], _∷_, map}
-use Prim.Native.Nat.{ℕ, zero, suc, _+_, _-_, _*_, _/_, _%_, _≤_, _<_}
-use native.Mathlib.Nat.{div-add-mod', div-lt-iff-lt-mul, mod-lt, lt-irrefl}
+use Prim.Native.Nat.{ℕ, _+_, _-_, _*_, _/_, _%_, _≤_, _<_}
+use native.Mathlib.Nat.{div-add-mod', div-lt-iff-lt-mul, mod-lt}
 use native.Mathlib.Omega.{arith}
 use lib.Dec.{leb}
-use borrow.Author.Tests.{le-leb, lt-leb, leb-true, le-ltb, lt-ltb}
+use borrow.Author.Tests.{le-leb, lt-leb, leb-true}
 use Rattle.laws.specs.Lists.{filter, from, upTo, each, only}
 use Rattle.laws.proofs.Tests.{by-le, fst-true, snd-true, both-true}
-use Rattle.laws.proofs.Lists.{filter-each, each-same, each-filter, only-each, only-only, pairs-filter}
-use Rattle.laws.proofs.Ranges.{each-from}
-use Rattle.laws.proofs.Rows.{each-each, each-map, each-alone, only-where, filter-is-each, each-rows, window}
+use Rattle.laws.proofs.Lists.{filter-each, each-same, only-each, only-only, pairs-filter}
+use Rattle.laws.proofs.Rows.{each-each, each-map, each-alone, filter-is-each, each-rows, window}
 use Rattle.rules.specs.Sizes.{tileNo, rowOf, columnOf, tileCount, tiles}
-use Rattle.rules.specs.Span.{place}
-use Rattle.rules.specs.Classes.{classes, markedIn}
-use Rattle.rules.specs.Tables.{Tables, runNo, runAt}
-use Rattle.rules.specs.Join.{Pair, beside, neighbours, lists, runPairs, classPairs, tilePairs, joinPairs}
-use Rattle.rules.specs.JoinSteps.{reaches, hasTile, tileAt, placeAt, markedAt, positionPairs}
+use Rattle.rules.specs.Tables.{Tables, runAt}
+use Rattle.rules.specs.Join.{Pair, beside, neighbours, lists, runPairs}
+use Rattle.rules.specs.JoinSteps.{reaches, hasTile, tileAt}
 use Rattle.rules.specs.declared.Grid.{Grid}
 use Rattle.rules.proofs.Good.{GoodSizes}
-use Rattle.rules.proofs.Report.{column-again, row-again, tile-below}
+use Rattle.rules.proofs.Report.{tile-below}
 
 -- ---- one dimension
 
@@ -92,17 +89,6 @@ module _ (n c : ℕ) (h : c < n) where
 
       three : {a b c a′ b′ c′ : ℕ} → a ≡ a′ → b ≡ b′ → c ≡ c′ → a ∷ b ∷ c ∷ [] ≡ a′ ∷ b′ ∷ c′ ∷ []
       three e f k = ap₂ (λ (x : ℕ) (l : List ℕ). x ∷ l) e (two f k)
-
-  -- how the column at an offset lies to c
-  pub place-by-offset : (d : ℕ) → d < 3 → reaches n c d ≡ true → place (c + d - 1) c ≡ placeAt d
-  unfolding place reaches
-  place-by-offset d k e = go d k (leb-true 1 (c + d) (fst-true (leb 1 (c + d)) _ e))
-    where
-      go : (d : ℕ) → d < 3 → 1 ≤ c + d → place (c + d - 1) c ≡ placeAt d
-      go zero k l = rw (lt-ltb (c + 0 - 1) c (omega arith))
-      go (suc zero) k l = rw (le-ltb (c + 1 - 1) c (omega arith), le-ltb c (c + 1 - 1) (omega arith))
-      go (suc (suc zero)) k l = rw (le-ltb (c + 2 - 1) c (omega arith), lt-ltb c (c + 2 - 1) (omega arith))
-      go (suc (suc (suc d))) k l = absurd (lt-irrefl d (omega arith))
 
 -- ---- the nine positions
 
@@ -186,42 +172,9 @@ module _ (g : Grid) (ok : GoodSizes g) (t : ℕ) (h : t < tileCount g) where
         tile-below g (ok .side-pos) (row + p / 3 - 1) (col + p % 3 - 1)
         (inside row (p / 3) (omega arith) reaches-row) (inside col (p % 3) (omega arith) reaches-col)
 
-    -- and the marks there are those of the position
-    pub marks-by-position : (a b : ℕ) → markedIn g t (tileAt g t p) a b ≡ markedAt p a b
-    unfolding markedIn markedAt tileAt
-    marks-by-position a b =
-        let l : col + p % 3 - 1 < g .n = inside col (p % 3) (omega arith) reaches-col in
-        rw (
-          column-again g (ok .side-pos) (row + p / 3 - 1) (col + p % 3 - 1) l,
-          row-again g (ok .side-pos) (row + p / 3 - 1) (col + p % 3 - 1) l,
-          place-by-offset (g .n) col col-inside (p % 3) (omega arith) reaches-col,
-          place-by-offset (g .n) row row-inside (p / 3) (omega arith) reaches-row,
-        )
-
 -- ---- the loops
 
-module _ (g : Grid) (ok : GoodSizes g) (tr ts : Tables) (r : ℕ) where
-  tile-pairs : (t p : ℕ) → t < tileCount g → p < 9
-      → each (tilePairs g tr ts r t) (only (hasTile g t p) (tileAt g t p ∷ [])) ≡ only (hasTile g t p) (positionPairs g tr ts r t p)
-  unfolding tilePairs classPairs positionPairs
-  tile-pairs t p h k =
-      each-alone (tilePairs g tr ts r t) (hasTile g t p) (tileAt g t p)
-      ∙ only-where (hasTile g t p) (λ e.
-      each-same _ _ classes (λ a.
-      each-filter (markedIn g t (tileAt g t p) a) (λ b. runPairs g tr ts r (runNo t a) (runNo (tileAt g t p) b)) classes
-      ∙ each-same _ _ classes (λ b.
-      ap (λ (x : Bool). only x (runPairs g tr ts r (runNo t a) (runNo (tileAt g t p) b))) (marks-by-position g ok t h p k e a b))))
-
-  -- the join's pairs, by R's tiles, the nine positions, R's and S's classes
-  pub join-by-position : joinPairs g tr ts r ≡ each (λ t. each (λ p. only (hasTile g t p) (positionPairs g tr ts r t p)) (upTo 9)) (tiles g)
-  unfolding joinPairs tiles
-  join-by-position =
-      each-from _ _ 0 (tileCount g) (λ t _ h.
-      let l : t < tileCount g = omega arith in
-      ap (each (tilePairs g tr ts r t)) (neighbours-by-position g ok t l)
-      ∙ each-each (tilePairs g tr ts r t) (λ p. only (hasTile g t p) (tileAt g t p ∷ [])) (upTo 9)
-      ∙ each-from _ _ 0 9 (λ p _ k. tile-pairs t p l (omega arith)))
-
+module _ (g : Grid) (tr ts : Tables) (r : ℕ) where
   -- the pairs of two runs, by R's number and S's
   pub run-pairs-by-two : (k m : ℕ)
       → runPairs g tr ts r k m ≡ each (λ i. each (λ j. only (lists g (tr .reg) (ts .reg) r k m (i, j)) ((i, j) ∷ [])) (runAt ts m)) (runAt tr k)

@@ -20,10 +20,11 @@ use Rattle.laws.proofs.Lengths.{length-filter, length-total, length-product}
 use Rattle.rules.specs.Sizes.{mostEntries, tileCount, tiles}
 use Rattle.rules.specs.Classes.{classes, markedIn}
 use Rattle.rules.specs.Tables.{Tables, runNo, runs, runStart, runEnd, runAt, badEnds, goodRun, goodRuns}
-use Rattle.rules.specs.Join.{Pair, lists, neighbours, pairsOf, runPairs, classPairs, tilePairs, joinPairs, pairWrites}
+use Rattle.rules.specs.Join.{Pair, lists, neighbours, runPairs, classPairs, tilePairs, joinPairs, pairWrites}
 use Rattle.rules.specs.declared.Grid.{Grid}
 use Rattle.rules.proofs.Report.{run-again}
-use Rattle.rules.proofs.JoinBoxes.{in-all}
+use Rattle.laws.specs.Pairs.{pairs}
+use Rattle.laws.proofs.Computed.{all-mem}
 
 -- ---- the entries of runs without damage
 
@@ -71,7 +72,7 @@ module _ (g : Grid) (t : Tables) where
   -- all entries that a join reads of one side
   pub few-run-entries : goodRuns g t (upTo (runs g)) ≡ true → length (each (runAt t) (upTo (runs g))) ≤ 268435456
   unfolding goodRuns
-  few-run-entries e = few-before (runs g) (λ k h. in-all (goodRun g t) (upTo (runs g)) e (from-mem 0 (runs g) k zero-le (omega arith)))
+  few-run-entries e = few-before (runs g) (λ k h. all-mem (goodRun g t) (upTo (runs g)) e (from-mem 0 (runs g) k zero-le (omega arith)))
 
   -- a tile's entries, by its classes
   abbrev tileEntries : ℕ → List ℕ
@@ -98,7 +99,7 @@ module _ (g : Grid) (tr ts : Tables) (r : ℕ) where
   run-few : (k m : ℕ) → length (runPairs g tr ts r k m) ≤ length (runAt tr k) * length (runAt ts m)
   unfolding runPairs
   run-few k m =
-      le-trans (length-filter (lists g (tr .reg) (ts .reg) r k m) (pairsOf (runAt tr k) (runAt ts m)))
+      le-trans (length-filter (lists g (tr .reg) (ts .reg) r k m) (pairs (runAt tr k) (runAt ts m)))
       (length-each _ (length (runAt ts m)) (runAt tr k) (λ i. le-of-eq (length-map (runAt ts m) (λ (j : ℕ). (i, j)))))
 
   tile-few : (t u : ℕ) → length (tilePairs g tr ts r t u) ≤ length (tileEntries g tr t) * length (tileEntries g ts u)

@@ -7,15 +7,18 @@ use native.Mathlib.Nat.{div-add-mod', div-lt-iff-lt-mul, add-le-add}
 use native.Mathlib.Omega.{arith}
 use lib.Dec.{eqb}
 use lib.Arith.{digits-div, digits-mod, digits-lt}
-use borrow.Author.Tests.{eqb-true, eq-eqb}
+use borrow.Author.Tests.{eqb-true, eq-eqb, le-ltb}
+use Rattle.laws.specs.Lists.{from}
+use Rattle.laws.proofs.Filters.{filter-all}
+use Rattle.laws.proofs.Ranges.{mem-from}
 use Rattle.laws.proofs.Tests.{iff, fst-true, snd-true, both-true, cross}
 use Rattle.laws.proofs.Numbers.{square-rises, div-rises}
-use Rattle.rules.specs.Sizes.{column, tileNo, rowOf, columnOf, tileCount}
+use Rattle.rules.specs.Sizes.{column, tileNo, rowOf, columnOf, tileCount, tileOf}
 use Rattle.rules.specs.Span.{cover, meets, place, drawn}
 use Rattle.rules.specs.Distance.{square, point, tileRect, shares}
-use Rattle.rules.specs.Classes.{classOf, allowedIn, reportTile}
-use Rattle.rules.specs.Tables.{runNo, runs}
-use Rattle.rules.specs.Search.{allowedRun, reportRun}
+use Rattle.rules.specs.Classes.{classOf, allowed, allowedIn, reportTile}
+use Rattle.rules.specs.Tables.{runNo, runs, tileRuns}
+use Rattle.rules.specs.Search.{allowedRun, allowedRuns, reportRun}
 use Rattle.rules.specs.declared.Grid.{Grid}
 use Rattle.rules.specs.declared.Point.{Point}
 use Rattle.rules.specs.declared.Rect.{Rect}
@@ -150,3 +153,27 @@ module _ (g : Grid) (pos : 0 < g .side) where
             given-by-one-tile RT ∙ eq-eqb RT RT refl in
             rw (f, m, fst-true (shares (tileRect g RT) a) _ v, eq-eqb (classOf g RT a) (classOf g RT a) refl)
             (snd-true (shares (tileRect g RT) a) (allowedIn g q RT (classOf g RT a)) v)
+
+-- ---- the point's own tile
+
+module _ (g : Grid) (pos : 0 < g .side) (q : Point) (h : column g (q .x) < g .n) where
+  pub own-column : (t : ℕ) → t ≡ tileOf g q → columnOf g t ≡ column g (q .x)
+  unfolding tileOf
+  own-column t e = rw e (column-again g pos (column g (q .y)) (column g (q .x)) h)
+
+  pub own-row : (t : ℕ) → t ≡ tileOf g q → rowOf g t ≡ column g (q .y)
+  unfolding tileOf
+  own-row t e = rw e (row-again g pos (column g (q .y)) (column g (q .x)) h)
+
+  -- every run of it is allowed
+  pub own-runs : allowedRuns g q (tileOf g q) ≡ tileRuns (tileOf g q)
+  unfolding allowedRuns tileRuns allowedRun allowedIn allowed place
+  own-runs = filter-all (allowedRun g q) (from (16 * tileOf g q) 16) (λ k m. all-given k (mem-from (16 * tileOf g q) 16 m))
+    where
+      place-own : (c d : ℕ) → c ≡ d → (px py : ℕ) → px ≡ py → (class : ℕ) → allowed (place c d) (place px py) class ≡ true
+      place-own c d e px py f class = rw (e, f, le-ltb d d (omega arith), le-ltb py py (omega arith))
+
+      all-given : (k : ℕ) → (16 * tileOf g q ≤ k) × (k < 16 * tileOf g q + 16) → allowedRun g q k ≡ true
+      all-given k l =
+          let e : k / 16 ≡ tileOf g q = omega arith in
+          place-own (columnOf g (k / 16)) (column g (q .x)) (own-column (k / 16) e) (rowOf g (k / 16)) (column g (q .y)) (own-row (k / 16) e) (k % 16)

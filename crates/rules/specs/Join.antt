@@ -1,11 +1,12 @@
 -- The join of two registers: its pairs by the steps, for tables of any origin, its promise, and the pairs that two registers declare.
 -- Document 01, "Join" and "Refusal numbers". Assumes nothing.
 use mathlib.Core.Bool.{Bool, _&&_, _||_, not}
-use mathlib.Core.List.{List, [], _∷_, map}
+use mathlib.Core.List.{List, [], _∷_}
 use Prim.Native.Nat.{ℕ, _+_}
 use lib.Dec.{leb, ltb, eqb}
 use lib.ListN.{length}
 use Rattle.laws.specs.Lists.{filter, upTo, each}
+use Rattle.laws.specs.Pairs.{pairs}
 use Rattle.rules.specs.Sizes.{badSizes, rowOf, columnOf, tiles}
 use Rattle.rules.specs.Distance.{within}
 use Rattle.rules.specs.Classes.{classes, markedIn}
@@ -36,13 +37,9 @@ neighbours g t u = beside (columnOf g t) (columnOf g u) && beside (rowOf g t) (r
 unfoldable pub lists : Grid → List ℕ → List ℕ → ℕ → ℕ → ℕ → Pair → Bool
 lists g regR regS r k m p = within r (rectangle g regR (p .0)) (rectangle g regS (p .1))
 
--- all pairs of two lists, by the first
-abbrev pub pairsOf : List ℕ → List ℕ → List Pair
-pairsOf l m = each (λ i. map (λ (j : ℕ). (i, j)) m) l
-
 -- the listed pairs of two runs
 unfoldable pub runPairs : Grid → Tables → Tables → ℕ → ℕ → ℕ → List Pair
-runPairs g tr ts r k m = filter (lists g (tr .reg) (ts .reg) r k m) (pairsOf (runAt tr k) (runAt ts m))
+runPairs g tr ts r k m = filter (lists g (tr .reg) (ts .reg) r k m) (pairs (runAt tr k) (runAt ts m))
 
 -- of R's class a in tile t, and of all classes of S that are joined to it in tile u
 unfoldable pub classPairs : Grid → Tables → Tables → ℕ → ℕ → ℕ → ℕ → List Pair
@@ -96,5 +93,5 @@ pairedIn g regR regS r k m p =
 unfoldable pub declaredPairs : Grid → List ℕ → List ℕ → ℕ → List Pair
 declaredPairs g regR regS r =
     each (λ t. each (λ u. each (λ a. each (λ b.
-    filter (pairedIn g regR regS r (runNo t a) (runNo u b)) (pairsOf (footprints regR) (footprints regS)))
+    filter (pairedIn g regR regS r (runNo t a) (runNo u b)) (pairs (footprints regR) (footprints regS)))
     classes) classes) (tiles g)) (tiles g)

@@ -16,12 +16,13 @@ use Rattle.rules.specs.Tables.{Tables, runs, badStarts, goodRuns, tileRuns}
 use Rattle.rules.specs.Search.{allowedRun, allowedRuns}
 use Rattle.rules.specs.declared.Grid.{Grid}
 use Rattle.rules.specs.declared.Point.{Point}
+use Rattle.rules.proofs.Good.{good-runs-append}
 use Rattle.search.specs.Reading.{tileMost, keepHit, Left, goodEntries, hitsIn, hitsOf, heldIn, Lies, Holds, JudgedEntries, JudgedRuns}
 use Rattle.search.specs.declared.Tally.{Tally}
 use Rattle.search.specs.declared.Held.{Held}
 use Rattle.search.proofs.Left.{left-same, left-on, left-bad, left-none}
 use Rattle.search.proofs.Entries.{tally}
-use Rattle.search.proofs.Tile.{held, good-runs-append, hits-of-append}
+use Rattle.search.proofs.Tile.{held, hits-of-append}
 
 -- run 16×tile+class and the next have their starts
 pub starts-stand : (g : Grid) (starts : List ℕ) → badStarts g starts ≡ false → (tile class : ℕ) → tile < tileCount g → class < 16
@@ -112,7 +113,7 @@ module _ {g : Grid} {t : Tables} {q : Point} {r tile c₀ : ℕ} {lent₀ : List
     module _ (lt : class < 16) {lent′ : List ℕ} {h′ : Held} (s : Holds g t q r (oneRun g q tile class) h lent h′ lent′) where
       good-next : (goodHeld && goodLeft class) ≡ ((goodHeld && goodRuns g t (oneRun g q tile class)) && goodLeft (class + 1))
       good-next =
-          ap (λ (b : Bool). goodHeld && b) (ap (goodRuns g t) (runs-next g q tile class lt) ∙ good-runs-append g t q r (oneRun g q tile class) (runsFrom g q tile (class + 1)))
+          ap (λ (b : Bool). goodHeld && b) (ap (goodRuns g t) (runs-next g q tile class lt) ∙ good-runs-append g t (oneRun g q tile class) (runsFrom g q tile (class + 1)))
           ∙ sym (and-assoc goodHeld (goodRuns g t (oneRun g q tile class)) (goodLeft (class + 1)))
 
       hits-next : hitsHeld ++ hitsLeft class ≡ (hitsHeld ++ hitsOf g t q r (oneRun g q tile class)) ++ hitsLeft (class + 1)

@@ -12,11 +12,12 @@ use Rattle.laws.proofs.Tests.{clash}
 use Rattle.rules.specs.Tables.{Tables, goodRuns}
 use Rattle.rules.specs.declared.Grid.{Grid}
 use Rattle.rules.specs.declared.Point.{Point}
+use Rattle.rules.proofs.Good.{good-runs-append}
 use Rattle.search.specs.Reading.{keepHit, Left, hitsOf, JudgedRuns}
 use Rattle.search.specs.declared.Tally.{Tally}
 use Rattle.search.proofs.Left.{left-same, left-on, left-bad, left-none}
 use Rattle.search.proofs.Entries.{tally}
-use Rattle.search.proofs.Tile.{good-runs-append, hits-of-append}
+use Rattle.search.proofs.Tile.{hits-of-append}
 
 -- the pieces from i up to and including last
 abbrev piecesFrom : (ℕ → List ℕ) → ℕ → ℕ → List ℕ
@@ -66,7 +67,7 @@ module _ {g : Grid} {t : Tables} {q : Point} {r : ℕ} {whole : List ℕ} {piece
       next = ap (each piece) (next-left i (last + 1) (omega arith))
 
       good-next : goodRuns g t (piecesFrom piece last i) ≡ (goodRuns g t (piece i) && goodRuns g t (piecesFrom piece last (i + 1)))
-      good-next = ap (goodRuns g t) next ∙ good-runs-append g t q r (piece i) (piecesFrom piece last (i + 1))
+      good-next = ap (goodRuns g t) next ∙ good-runs-append g t (piece i) (piecesFrom piece last (i + 1))
 
       hits-next : hitsOf g t q r (piecesFrom piece last i) ≡ hitsOf g t q r (piece i) ++ hitsOf g t q r (piecesFrom piece last (i + 1))
       hits-next = ap (hitsOf g t q r) next ∙ hits-of-append g t q r (piece i) (piecesFrom piece last (i + 1))

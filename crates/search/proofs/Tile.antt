@@ -2,7 +2,7 @@
 use mathlib.Core.Path.{_≡_, refl, sym, ap, ap₂, _∙_}
 use mathlib.Core.Bool.{Bool, true, false, not, _&&_, _||_, and-false, and-true}
 use mathlib.Core.List.{List, [], _∷_, _++_, append-nil}
-use Prim.Native.Nat.{ℕ, _+_, _-_, _≤_}
+use Prim.Native.Nat.{ℕ, _-_, _≤_}
 use native.Mathlib.Omega.{arith}
 use lib.Dec.{ltb}
 use lib.ListN.{length}
@@ -28,10 +28,6 @@ held b p c d = record { begin = b; past = p; count = c; bad = d }
 -- ---- runs one behind the other
 
 module _ (g : Grid) (t : Tables) (q : Point) (r : ℕ) where
-  pub good-runs-append : (k l : List ℕ) → goodRuns g t (k ++ l) ≡ (goodRuns g t k && goodRuns g t l)
-  unfolding goodRuns
-  good-runs-append k l = all-append (goodRun g t) k l
-
   pub hits-of-append : (k l : List ℕ) → hitsOf g t q r (k ++ l) ≡ hitsOf g t q r k ++ hitsOf g t q r l
   hits-of-append k l =
       ap (hitsIn g (t .reg) q r) (each-append (runAt t) k l) ∙ filter-append (isHit g (t .reg) q r) (each (runAt t) k) (each (runAt t) l)

@@ -14,7 +14,7 @@ use Rattle.laws.proofs.Tests.{by-bool, clash, neither}
 use Rattle.rules.specs.Sizes.{mostRadius, badSizes, badPoint}
 use Rattle.rules.specs.Register.{badRegister}
 use Rattle.rules.specs.Tables.{Tables, tables, badStarts, badLengths, goodRuns}
-use Rattle.rules.specs.Refusals.{Paper, paper, paperAnswer, Verdict, pass, refuse, judge, unless}
+use Rattle.rules.specs.Refusals.{Paper, paper, paperAnswer, Verdict, pass, refuse, unless}
 use Rattle.rules.specs.Search.{readRuns, radiusHits, hitWrites, searchVerdict, searches}
 use Rattle.rules.specs.declared.Grid.{Grid}
 use Rattle.rules.specs.declared.Point.{Point}
@@ -22,19 +22,11 @@ use Rattle.rules.specs.declared.Answer.{Answer}
 use Rattle.rules.specs.declared.Answer.the-variants.{Done, Refused}
 use Rattle.rules.specs.declared.Refusal.{Refusal}
 use Rattle.rules.specs.declared.Refusal.the-variants.{Sizes, Lengths, Place, Radius, Damage, Room}
+use Rattle.tables.proofs.Verdicts.{pass-not-refuse, judge-pass}
 use Rattle.search.specs.Reading.{boxMost, Ready, kept, JudgedRuns}
 use Rattle.search.specs.Judged.{judged, Counted, Writable}
 use Rattle.search.specs.declared.Tally.{Tally}
 use Rattle.search.proofs.Left.{writes-are, kept-fits}
-
--- ---- verdicts
-
-nothing {ℓ} : {X : Type ℓ} {v : Refusal} → refuse v ≡ pass → X
-nothing e = let z : _≡_ {A = ℕ} 0 1 = cc in absurd (not-suc-le-zero {n = 0} (omega arith))
-
-judge-pass : (b : Bool) (v : Refusal) (w : Verdict) → judge b v w ≡ pass → (b ≡ false) × (w ≡ pass)
-judge-pass true v w e = nothing e
-judge-pass false v w e = (refl, e)
 
 module _ (g : Grid) (t : Tables) (q : Point) (r : ℕ) where
   -- the lengths are judged without the entries
@@ -65,7 +57,7 @@ module _ (g : Grid) (t : Tables) (q : Point) (r : ℕ) where
 module _ {g : Grid} {t : Tables} {q : Point} {r : ℕ} {lent₀ lent : List ℕ} where
   refused : (v : Refusal) → searchVerdict g t q r ≡ refuse v → Counted g t q r lent₀ (Refused v) lent
   unfolding judged
-  refused v e = record { answer = rw e; first = λ f. nothing (sym e ∙ f) }
+  refused v e = record { answer = rw e; first = λ f. absurd (pass-not-refuse v (sym e ∙ f)) }
 
   pub refused-sizes : badSizes g ≡ true → Counted g t q r lent₀ (Refused Sizes) lent
   unfolding searchVerdict

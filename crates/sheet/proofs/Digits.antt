@@ -1,5 +1,5 @@
 -- The digits that stand from a place on, one place after the other, and the number that they say. Assumes nothing.
-use mathlib.Core.Path.{_≡_, refl, sym, ap, _∙_}
+use mathlib.Core.Path.{_≡_, sym, ap, _∙_}
 use mathlib.Core.Bool.{Bool, true, false, _||_, not, cond}
 use mathlib.Core.List.{List, [], _∷_}
 use Prim.Native.Nat.{ℕ, suc, _+_, _-_, _*_, _≤_, _<_}
@@ -9,6 +9,7 @@ use lib.Dec.{leb, eqb}
 use lib.ListN.{length, getD, drop, drop-of-length-le, length-drop}
 use lib.Seq.{drop-cons}
 use borrow.Author.Tests.{le-leb, lt-leb, eq-eqb, ne-eqb}
+use Rattle.laws.proofs.Lists.{empty}
 use Rattle.laws.proofs.Tests.{by-bool, by-le}
 use Rattle.rules.proofs.Decimals.{digit-range, tens, tens-rise}
 use Rattle.rules.specs.Text.{isDigit, digits, value, isDecimal}
@@ -105,10 +106,6 @@ module _ (text : List ℕ) (at count : ℕ) where
   pub reading-end : (n k : ℕ) → Reading text at count n k → count ≤ k → n ≡ value 0 (digits (drop at text))
   unfolding value
   reading-end n k i h = sym (ap (value n) (empty (digits (drop (at + k) text)) (omega (arith, i .left)))) ∙ i .whole
-    where
-      empty : (l : List ℕ) → length l ≤ 0 → l ≡ []
-      empty [] e = refl
-      empty (a ∷ l) e = absurd (omega arith)
 
 -- ---- a decimal
 

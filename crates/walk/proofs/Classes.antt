@@ -11,9 +11,8 @@ use Rattle.laws.specs.Lists.{keep, filter, from, each}
 use Rattle.laws.proofs.Tests.{clash, fst-true, snd-true}
 use Rattle.laws.proofs.Lists.{each-append}
 use Rattle.laws.proofs.Ranges.{filter-from}
-use Rattle.laws.proofs.Parts.{all-append}
 use Rattle.rules.specs.Sizes.{mostEntries, tileCount}
-use Rattle.rules.specs.Tables.{Tables, tileRuns, runAt, goodRun, goodRuns}
+use Rattle.rules.specs.Tables.{Tables, tileRuns, runAt, goodRuns}
 use Rattle.rules.specs.Classes.{allowedIn}
 use Rattle.rules.specs.Search.{allowedRun, allowedRuns}
 use Rattle.rules.specs.Walk.{waitingRow, tileBrings}
@@ -22,6 +21,7 @@ use Rattle.rules.specs.declared.Point.{Point}
 use Rattle.rules.specs.declared.Item.the-variants.{Footprint}
 use Rattle.rules.specs.declared.Three.{Three}
 use Rattle.grid.specs.Places.{isOn}
+use Rattle.rules.proofs.Good.{good-runs-append}
 use Rattle.walk.specs.Fill.{Got, lost, addAll, brought}
 use Rattle.walk.specs.Reading.{entryRows, runRows, Allows, tally, Judged}
 use Rattle.walk.specs.declared.tile.Tally.{Tally}
@@ -72,10 +72,6 @@ module _ (tile mask : ℕ) where
   class-off class e = rw e refl
 
 module _ (g : Grid) (t : Tables) where
-  good-append : (ks ms : List ℕ) → goodRuns g t (ks ++ ms) ≡ (goodRuns g t ks && goodRuns g t ms)
-  unfolding goodRuns
-  good-append ks ms = all-append (goodRun g t) ks ms
-
   rows-append : (q : Point) (ks ms : List ℕ) → runRows g t q (ks ++ ms) ≡ runRows g t q ks ++ runRows g t q ms
   rows-append q ks ms =
       ap (entryRows g (t .reg) q) (each-append (runAt t) ks ms)
@@ -114,7 +110,7 @@ module _ (g : Grid) (t : Tables) where
 
     module _ (count class : ℕ) (h : class < 16) (p : Counting count class) (r : Tally) (j : Judged g t (one class) 1 r) where
       good-next : goodRuns g t (left 0) ≡ (goodRuns g t (one class) && goodRuns g t (left (class + 1)))
-      good-next = sym (p .still) ∙ ap (goodRuns g t) (runs-next tile mask class h) ∙ good-append (one class) (left (class + 1))
+      good-next = sym (p .still) ∙ ap (goodRuns g t) (runs-next tile mask class h) ∙ good-runs-append g t (one class) (left (class + 1))
 
       this : (b : Bool) → r .bad ≡ b → goodRuns g t (one class) ≡ not b
       this b e = turned (goodRuns g t (one class)) b (sym e ∙ j .said)
@@ -156,7 +152,7 @@ module _ (g : Grid) (t : Tables) where
     -- this run, and those behind it, show no damage
     pub both-good : (class : ℕ) → class < 16 → goodRuns g t (left class) ≡ true → (goodRuns g t (one class) ≡ true) × (goodRuns g t (left (class + 1)) ≡ true)
     both-good class h e =
-        let f = sym (ap (goodRuns g t) (runs-next tile mask class h) ∙ good-append (one class) (left (class + 1))) ∙ e in
+        let f = sym (ap (goodRuns g t) (runs-next tile mask class h) ∙ good-runs-append g t (one class) (left (class + 1))) ∙ e in
         (fst-true (goodRuns g t (one class)) (goodRuns g t (left (class + 1))) f, snd-true (goodRuns g t (one class)) (goodRuns g t (left (class + 1))) f)
 
     pub class-rows : (q : Point) (class : ℕ) → class < 16 → runRows g t q (left class) ≡ runRows g t q (one class) ++ runRows g t q (left (class + 1))

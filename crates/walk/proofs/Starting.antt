@@ -2,22 +2,20 @@
 use mathlib.Core.Path.{_≡_, refl, sym, ap, ap₂, _∙_}
 use mathlib.Core.Bool.{Bool, true, false, cond, not}
 use mathlib.Core.List.{List, [], _∷_, _++_, map, map-append}
-use Prim.Native.Nat.{ℕ, zero, suc, _+_, _-_, _*_, _/_, _%_, _≤_, _<_}
+use Prim.Native.Nat.{ℕ, _+_, _-_, _%_, _≤_, _<_}
 use native.Mathlib.Nat.{not-suc-le-zero}
 use native.Mathlib.Omega.{arith}
 use lib.Dec.{eqb, ltb}
 use lib.ListN.{length, drop, length-append, length-map, drop-of-length-le}
 use borrow.Author.Tests.{ltb-false, le-ltb, lt-ltb}
-use Rattle.laws.specs.Lists.{filter, from, each}
+use Rattle.laws.specs.Lists.{each}
 use Rattle.laws.proofs.Tests.{neither}
 use Rattle.laws.proofs.Counting.{length-each}
-use Rattle.rules.specs.Sizes.{mostFootprints, badSizes, badPoint, column, tileOf}
-use Rattle.rules.specs.Span.{place, level}
-use Rattle.rules.specs.Classes.{allowed, allowedIn}
+use Rattle.rules.specs.Sizes.{mostFootprints, badSizes, badPoint, tileOf}
 use Rattle.rules.specs.Register.{numbers, count, badRegister}
 use Rattle.rules.specs.Tables.{Tables, badStarts, badLengths, tileRuns, runAt}
 use Rattle.rules.specs.Refusals.{Paper, paper, paperAnswer, pass, refuse}
-use Rattle.rules.specs.Search.{allowedRun, allowedRuns}
+use Rattle.rules.specs.Search.{allowedRuns}
 use Rattle.rules.specs.Front.{rows, laid, insertAll, directions}
 use Rattle.rules.specs.Walk.{groupExists, groupIf, waitingRow, startEntries, startFront, walkAt, refusedWalk, startRoom, badStart, startVerdict, begun}
 use Rattle.rules.specs.declared.Grid.{Grid}
@@ -33,7 +31,7 @@ use Rattle.rules.specs.declared.Three.{Three}
 use Rattle.rules.specs.declared.Walk.{Walk}
 use Rattle.rules.specs.declared.Walked.{Walked}
 use Rattle.rules.proofs.Memory.{length-rows}
-use Rattle.rules.proofs.Report.{column-again, row-again}
+use Rattle.rules.proofs.Report.{own-runs}
 use Rattle.walk.specs.Fill.{fill, Got, lost, kept, addAll, waits, stands}
 use Rattle.walk.specs.Reading.{Placed, runRows, Judged}
 use Rattle.walk.specs.Groups.{itemRows}
@@ -49,33 +47,14 @@ use Rattle.walk.proofs.Moves.{addAll-fits}
 
 -- ---- the tile that the point lies in
 
-all-pass : (p : ℕ → Bool) (i m : ℕ) → ((k : ℕ) → i ≤ k → k < i + m → p k ≡ true) → filter p (from i m) ≡ from i m
-all-pass p i zero h = refl
-all-pass p i (suc m) h =
-    rw (h i (omega arith) (omega arith)) (ap (λ (l : List ℕ). i ∷ l) (all-pass p (suc i) m (λ k a b. h k (omega arith) (omega arith))))
-
-level-same : (c : ℕ) → place c c ≡ level
-unfolding place
-level-same c = rw (le-ltb c c (omega arith)) refl
-
 module _ (g : Grid) (q : Point) (ok : Placed g q) where
-  own-allowed : (class : ℕ) → allowedIn g q (tileOf g q) class ≡ true
-  unfolding allowedIn allowed tileOf
-  own-allowed class =
-      let s = sized g q ok .side-pos in
-      let o = columns g q ok .0 in
-      rw (column-again g s (column g (q .y)) (column g (q .x)) o, row-again g s (column g (q .y)) (column g (q .x)) o, level-same (column g (q .x)), level-same (column g (q .y)))
-      refl
-
   -- all its runs are read
-  pub own-runs : allowedRuns g q (tileOf g q) ≡ tileRuns (tileOf g q)
-  unfolding allowedRuns tileRuns allowedRun
-  own-runs = all-pass (allowedRun g q) (16 * tileOf g q) 16
-      (λ k a b. let e : k / 16 ≡ tileOf g q = omega arith in ap (λ (x : ℕ). allowedIn g q x (k % 16)) e ∙ own-allowed (k % 16))
+  own-read : allowedRuns g q (tileOf g q) ≡ tileRuns (tileOf g q)
+  own-read = own-runs g (sized g q ok .side-pos) q (columns g q ok .0)
 
   module _ (t : Tables) (tile : ℕ) (et : tile ≡ tileOf g q) (r : Tally) (j : Judged g t (allowedRuns g q tile) 16 r) where
     own-judged : Judged g t (tileRuns (tileOf g q)) 16 r
-    own-judged = judged-as g t (allowedRuns g q tile) (tileRuns (tileOf g q)) 16 r j (ap (allowedRuns g q) et ∙ own-runs)
+    own-judged = judged-as g t (allowedRuns g q tile) (tileRuns (tileOf g q)) 16 r j (ap (allowedRuns g q) et ∙ own-read)
 
     pub bad-runs : r .bad ≡ true → badStart g t q ≡ true
     unfolding badStart
@@ -145,7 +124,7 @@ module _ (g : Grid) (q : Point) where
     start-rows : own ++ groups ≡ map (waitingRow g (t .reg) q) (map Footprint (startEntries g t q) ++ firstGroups directions)
     unfolding startEntries
     start-rows =
-        ap₂ (λ (x y : List Three). x ++ y) (ap (runRows g t q) (ap (allowedRuns g q) et ∙ own-runs g q ok)) (groups-alone (t .reg) directions)
+        ap₂ (λ (x y : List Three). x ++ y) (ap (runRows g t q) (ap (allowedRuns g q) et ∙ own-read g q ok)) (groups-alone (t .reg) directions)
         ∙ sym (map-append (waitingRow g (t .reg) q) (map Footprint (each (runAt t) (tileRuns (tileOf g q)))) (firstGroups directions))
 
     -- all of them find room, and wait in order

@@ -9,7 +9,8 @@ use Rattle.join.proofs.Loops.{OverRange, range-start, range-step, range
 use Rattle.rules.specs.Tables.{Tables, tables, runNo, runs, runAt}
 use Rattle.rules.specs.Join.{Pair, classPairs}
 use Rattle.join.specs.Levels.{goodEntries, markedPairs}
-use Rattle.join.proofs.Sides.{tiles-most, run-below, run-stands, run-ends-good, run-entries-good}
+use Rattle.rules.proofs.Report.{run-below}
+use Rattle.join.proofs.Sides.{tiles-most, run-stands, run-ends-good, run-entries-good}
 use Rattle.join.proofs.Levels.{class-pairs, class-empty, keeps-none}
 use native.Mathlib.Omega.{arith}
 use Rattle.join.proofs.pairs.of_class.Statement.{statement}

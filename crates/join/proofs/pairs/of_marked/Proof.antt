@@ -9,7 +9,8 @@ use Rattle.rules.specs.Tables.{Tables, tables, runs, runAt}
 use Rattle.rules.specs.Join.{Pair}
 use Rattle.join.specs.Keeping.{Kept, state, kept}
 use Rattle.join.specs.Levels.{goodEntries, markedPairs, runsPairs}
-use Rattle.join.proofs.Sides.{tiles-most, run-below, run-stands, run-ends-good, run-entries-good}
+use Rattle.rules.proofs.Report.{run-below}
+use Rattle.join.proofs.Sides.{tiles-most, run-stands, run-ends-good, run-entries-good}
 use Rattle.join.proofs.Levels.{mark-at, marked-pairs, unmarked-pairs, no-entries, keeps-none}
 use native.Mathlib.Omega.{arith}
 use borrow.Author.Needs.{needs}
