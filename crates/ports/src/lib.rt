@@ -24,9 +24,10 @@ pub extern "C" fn luv_build_n(
 ) -> u32
     ensures { λ k. ⌜ (toldIs k (now (value .exit)), now (starts .exit), now (entries .exit)) ≡ outward₂ (builds (record { n = n; side = side }) (now (reg .entry)) (now (starts .entry)) (now (entries .entry))) ⌝ }
 {
-    let t = outward::told_answer(index::build(Grid { n: n, side: side }, reg, starts, entries));
-    *value = t.value;
-    t.number
+    let g = Grid { n, side };
+    let built = outward::told_answer(index::build(g, reg, starts, entries));
+    *value = built.value;
+    built.number
 }
 
 // Whether starts and entries are what the build leaves; value: 1 for yes and 0 for no, or what the refusal names.
@@ -41,9 +42,10 @@ pub extern "C" fn luv_check_n(
 ) -> u32
     ensures { λ k. ⌜ toldIs k (now (value .exit)) ≡ outward (checks (record { n = n; side = side }) (now (reg .entry)) (now (starts .entry)) (now (entries .entry))) ⌝ }
 {
-    let t = outward::told_checked(index::check(Grid { n: n, side: side }, reg, starts, entries));
-    *value = t.value;
-    t.number
+    let g = Grid { n, side };
+    let checked = outward::told_checked(index::check(g, reg, starts, entries));
+    *value = checked.value;
+    checked.number
 }
 
 // Where the run of a class in a tile begins among the entries; value: how many it has. Both are 0 where it is refused.
@@ -60,13 +62,8 @@ pub extern "C" fn luv_run_n(
 ) -> u32
     ensures { λ k. ⌜ (toldIs k (now (value .exit)), now («from» .exit)) ≡ outwardRun (runEnds (record { n = n; side = side }) (now (starts .entry)) (length (now (entries .entry))) tile class) ⌝ }
 {
-    match tables::run_ends(
-        Grid { n: n, side: side },
-        starts,
-        entries.len(),
-        tile,
-        class,
-    ) {
+    let g = Grid { n, side };
+    match tables::run_ends(g, starts, entries.len(), tile, class) {
         Ends::At(begin, end) => {
             *from = begin as u64;
             *value = (end - begin) as u64;
@@ -96,18 +93,10 @@ pub extern "C" fn luv_search_n(
 ) -> u32
     ensures { λ k. ⌜ (toldIs k (now (value .exit)), now (out .exit)) ≡ outward₁ (searches (record { n = n; side = side }) (tables (now (reg .entry)) (now (starts .entry)) (now (entries .entry))) (record { x = x; y = y }) r (now (out .entry))) ⌝ }
 {
-    let t = outward::told_answer(search::search(
-        Grid { n: n, side: side },
-        reg,
-        starts,
-        entries,
-        x,
-        y,
-        r,
-        out,
-    ));
-    *value = t.value;
-    t.number
+    let g = Grid { n, side };
+    let found = outward::told_answer(search::search(g, reg, starts, entries, x, y, r, out));
+    *value = found.value;
+    found.number
 }
 
 // Begins a walk from x, y, and hands back its state; value: 0, or what the refusal names.
@@ -129,16 +118,17 @@ pub extern "C" fn luv_start_n(
 ) -> u32
     ensures { λ k. ⌜ (toldIs k (now (value .exit)), (now («x_after» .exit), now («y_after» .exit), now («waiting_after» .exit), now («mark_after» .exit)), now (front .exit)) ≡ outwardStart (begun (record { n = n; side = side }) (tables (now (reg .entry)) (now (starts .entry)) (now (entries .entry))) (record { x = x; y = y }) (now (front .entry))) ⌝ }
 {
-    let walked = walk::start(Grid { n: n, side: side }, reg, starts, entries, x, y, front);
-    let state = walked.walk;
+    let g = Grid { n, side };
+    let started = walk::start(g, reg, starts, entries, x, y, front);
+    let state = started.walk;
     *x_after = state.x;
     *y_after = state.y;
     *waiting_after = state.waiting as u64;
     *mark_after = outward::mark_no(state.damaged);
-    let answer = walked.answer;
-    let t = outward::told_answer(answer);
-    *value = t.value;
-    t.number
+    let answer = started.answer;
+    let begun = outward::told_answer(answer);
+    *value = begun.value;
+    begun.number
 }
 
 // Gives the next j rows of a walk whose state is x, y, waiting and mark, and hands back its state; value: the rows, or what the refusal names.
@@ -164,26 +154,18 @@ pub extern "C" fn luv_ask_n(
 ) -> u32
     ensures { λ k. ⌜ (toldIs k (now (value .exit)), (now («x_after» .exit), now («y_after» .exit), now («waiting_after» .exit), now («mark_after» .exit)), now (front .exit), now (out .exit)) ≡ outwardAsk (asks (record { n = n; side = side }) (tables (now (reg .entry)) (now (starts .entry)) (now (entries .entry))) (now (front .entry)) (walkOf x y waiting mark) j (now (out .entry))) ⌝ }
 {
+    let g = Grid { n, side };
     let before = outward::walk_of(x, y, waiting, mark);
-    let walked = walk::ask(
-        Grid { n: n, side: side },
-        reg,
-        starts,
-        entries,
-        front,
-        before,
-        j,
-        out,
-    );
-    let state = walked.walk;
-    *x_after = state.x;
-    *y_after = state.y;
-    *waiting_after = state.waiting as u64;
-    *mark_after = outward::mark_no(state.damaged);
-    let answer = walked.answer;
-    let t = outward::told_answer(answer);
-    *value = t.value;
-    t.number
+    let asked = walk::ask(g, reg, starts, entries, front, before, j, out);
+    let after = asked.walk;
+    *x_after = after.x;
+    *y_after = after.y;
+    *waiting_after = after.waiting as u64;
+    *mark_after = outward::mark_no(after.damaged);
+    let answer = asked.answer;
+    let given = outward::told_answer(answer);
+    *value = given.value;
+    given.number
 }
 
 // Writes the pairs of R's and S's footprints within r; value: the pairs, or what the refusal names.
@@ -203,8 +185,9 @@ pub extern "C" fn luv_join_n(
 ) -> u32
     ensures { λ k. ⌜ (toldIs k (now (value .exit)), now (out .exit)) ≡ outward₁ (joins (record { n = n; side = side }) (tables (now («reg_r» .entry)) (now («starts_r» .entry)) (now («entries_r» .entry))) (tables (now («reg_s» .entry)) (now («starts_s» .entry)) (now («entries_s» .entry))) r (now (out .entry))) ⌝ }
 {
-    let t = outward::told_answer(join::join(
-        Grid { n: n, side: side },
+    let g = Grid { n, side };
+    let joined = outward::told_answer(join::join(
+        g,
         reg_r,
         starts_r,
         entries_r,
@@ -214,6 +197,6 @@ pub extern "C" fn luv_join_n(
         r,
         out,
     ));
-    *value = t.value;
-    t.number
+    *value = joined.value;
+    joined.number
 }
