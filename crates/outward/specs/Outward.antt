@@ -1,9 +1,9 @@
 -- Answers as C has them: the refusal's number, 0 for accepted, and a value, 0 where the rules name none. Assumes nothing.
-use mathlib.Core.Bool.{Bool, true, false, not}
+use mathlib.Core.Bool.{Bool, true, false, not, cond}
 use mathlib.Core.List.{List}
-use Prim.Native.Nat.{ℕ}
+use Prim.Native.Nat.{ℕ, _-_}
 use lib.Dec.{eqb}
-use lib.ListN.{length, getD}
+use lib.ListN.{getD}
 use Rattle.rules.specs.Refusals.{Paper}
 use Rattle.rules.specs.declared.Walk.{Walk}
 use Rattle.outward.specs.declared.Told.{Told}
@@ -20,6 +20,11 @@ outward₁ t = (outward (t .0), t .1)
 
 abbrev pub outward₂ : {A B : Type 0} → Paper × A × B → Told × A × B
 outward₂ t = (outward (t .0), t .1, t .2)
+
+-- a run's answer and where it begins: of one that is accepted the value is its length, a refused one has 0 for both
+unfoldable pub outwardRun : Paper → Told × ℕ
+outwardRun p =
+    cond (eqb (p .number) 0) (told 0 (getD (p .values) 1 0 - getD (p .values) 0 0), getD (p .values) 0 0) (told (p .number) 0, 0)
 
 -- a mark is 0 for unset, any other number for set; handed back it is 0 or 1
 unfoldable pub isMarked : ℕ → Bool

@@ -3,9 +3,10 @@
 use rules::Answer;
 use rules::Checked;
 use rules::Refusal;
+use rules::Walk;
 ghost use mathlib.Core.Path.{_≡_};
 ghost use Rattle.rules.specs.Refusals.{paper, paperAnswer, paperChecked};
-ghost use Rattle.outward.specs.Outward.{outward};
+ghost use Rattle.outward.specs.Outward.{outward, markNo, walkOf};
 
 // An answer as C has it.
 pub struct Told {
@@ -80,5 +81,24 @@ pub fn told_checked(a: Checked) -> Told
             value: 0,
         },
         Checked::Refused(r) => told_refusal(r),
+    }
+}
+
+// A mark as a number: 1 where it is set.
+pub fn mark_no(set: bool) -> u32
+    ensures { λ r. ⌜ r ≡ markNo set ⌝ }
+{
+    if set { 1 } else { 0 }
+}
+
+// The state of a walk from its numbers.
+pub fn walk_of(x: u32, y: u32, waiting: u64, mark: u32) -> Walk
+    ensures { λ r. ⌜ r ≡ walkOf x y waiting mark ⌝ }
+{
+    Walk {
+        x: x,
+        y: y,
+        waiting: waiting as usize,
+        damaged: mark != 0,
     }
 }
