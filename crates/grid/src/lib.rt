@@ -1,6 +1,7 @@
 // Leaves over a grid: sizes, columns and tiles, spans and distances, classes and the sets of them that a search reads.
 
 pub mod marks; // marks.rt: the marks of a join
+pub mod near; // near.rt: what lies within r
 
 use rules::Grid;
 use rules::Point;
@@ -29,7 +30,7 @@ fn wide(x: u32) -> u64
 }
 
 // The product of two numbers, which fits.
-fn product(a: u32, b: u32) -> u64
+pub(crate) fn product(a: u32, b: u32) -> u64
     ensures { λ r. ⌜ (r ≡ a * b) × (r ≤ 18446744065119617025) ⌝ }
 {
     wide(a) * wide(b)

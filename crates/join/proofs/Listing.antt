@@ -3,8 +3,7 @@
 use mathlib.Core.Path.{_≡_}
 use mathlib.Core.Bool.{true, false}
 use mathlib.Core.List.{List}
-use Prim.Native.Nat.{ℕ, _+_, _*_, _≤_, _<_}
-use native.Mathlib.Nat.{mul-le-mul}
+use Prim.Native.Nat.{ℕ, _+_, _≤_, _<_}
 use native.Mathlib.Omega.{arith}
 use lib.ListN.{length}
 use Rattle.rules.specs.Sizes.{badSizes}
@@ -26,10 +25,6 @@ named-near g reg i s h =
     let a = good-rectangle g reg i (good-entry g reg i h .1) in
     let most = coordinates-most g (good-sizes g s) in
     record { x = omega (arith, a .in-x .ordered, a .in-x .inside); y = omega (arith, a .in-y .ordered, a .in-y .inside) }
-
--- the square of a 32-bit number fits 64 bits
-pub square-fits : (r : ℕ) → r ≤ 4294967295 → r * r ≤ 18446744065119617025
-square-fits r h = mul-le-mul {n₂ = 4294967295} {m₂ = 4294967295} h h
 
 module _ (g : Grid) (regR regS : List ℕ) (r k m i j : ℕ) where
   -- a listed pair is one more

@@ -8,12 +8,6 @@ ghost use Rattle.laws.specs.Lists.{upTo};
 ghost use Rattle.rules.specs.Tables.{tables, runs, badStarts, goodRun, goodRuns};
 ghost use Rattle.join.specs.Levels.{goodEntries};
 
-fn wide(x: u32) -> usize
-    ensures { λ r. ⌜ r ≡ x ⌝ }
-{
-    x as usize
-}
-
 // Whether an entry of a run may not be named.
 fn bad_entries(g: Grid, reg: &[u32], run: &[u32]) -> bool
     ensures { λ b. ⌜ b ≡ not (goodEntries g (now (reg .entry)) (now (run .entry))) ⌝ }
@@ -33,8 +27,8 @@ fn bad_run(g: Grid, reg: &[u32], starts: &[u32], entries: &[u32], k: usize) -> b
     requires { ⌜ k + 1 < length (now starts) ⌝ }
     ensures { λ b. ⌜ b ≡ not (goodRun g (tables (now (reg .entry)) (now (starts .entry)) (now (entries .entry))) k) ⌝ }
 {
-    let from = wide(starts[k]);
-    let to = wide(starts[k + 1]);
+    let from = tables::wide(starts[k]);
+    let to = tables::wide(starts[k + 1]);
     if tables::bad_ends(entries.len(), from, to) {
         return true;
     }

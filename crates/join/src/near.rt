@@ -4,25 +4,10 @@ use rules::Rect;
 ghost use mathlib.Core.Path.{_≡_};
 ghost use mathlib.Core.Bool.{false};
 ghost use Rattle.rules.specs.Sizes.{badSizes};
-ghost use Rattle.rules.specs.Distance.{within};
 ghost use Rattle.rules.specs.Register.{badEntry};
 ghost use Rattle.rules.specs.Join.{lists};
 ghost use Rattle.grid.specs.Tiles.{Near};
 ghost use Rattle.join.specs.Boxes.{byDistance, apart as apartIs};
-
-fn wide(x: u32) -> u64
-    ensures { λ r. ⌜ r ≡ x ⌝ }
-{
-    x as u64
-}
-
-// Whether two rectangles are within r.
-fn near(r: u32, a: Rect, b: Rect) -> bool
-    requires { ⌜ Near a × Near b ⌝ }
-    ensures { λ c. ⌜ c ≡ within r a b ⌝ }
-{
-    grid::square(a, b) <= wide(r) * wide(r)
-}
 
 // Whether footprints i of R and j of S, met in the joined runs k and m, are listed.
 pub(crate) fn listed(
@@ -40,7 +25,7 @@ pub(crate) fn listed(
 {
     let a = tables::footprint(g, reg_r, i as usize);
     let b = tables::footprint(g, reg_s, j as usize);
-    near(r, a, b)
+    grid::near::within(r, a, b)
 }
 
 // Whether distance alone decides which pairs of the joined runs k and m are listed.
@@ -56,7 +41,7 @@ pub(crate) fn apart(g: Grid, r: u32, k: usize, m: usize, a: Rect, b: Rect) -> bo
     ensures { λ c. ⌜ c ≡ apartIs g r k m a b ⌝ }
 {
     if by_distance(g, r, k, m) {
-        return !near(r, a, b);
+        return !grid::near::within(r, a, b);
     }
     false
 }

@@ -10,12 +10,6 @@ ghost use Rattle.rules.specs.Tables.{runNo, runStart, runEnd, badEnds};
 ghost use Rattle.rules.specs.JoinSteps.{reaches as reachesIs, hasTile, tileAt};
 ghost use Rattle.join.specs.Levels.{positionOf};
 
-fn wide(x: u32) -> usize
-    ensures { λ r. ⌜ r ≡ x ⌝ }
-{
-    x as usize
-}
-
 // Whether the column or row at offset d−1 from c is one of n.
 fn reaches(n: u32, c: u32, d: u32) -> bool
     requires { ⌜ (c ≤ 64) × (d ≤ 2) ⌝ }
@@ -61,7 +55,7 @@ pub(crate) fn run_no(t: u32, class: u32) -> usize
     requires { ⌜ (t < 4096) × (class < 16) ⌝ }
     ensures { λ r. ⌜ r ≡ runNo t class ⌝ }
 {
-    16 * wide(t) + wide(class)
+    16 * tables::wide(t) + tables::wide(class)
 }
 
 // The numbers of run k, which shows no damage.
@@ -69,7 +63,7 @@ pub(crate) fn run_part<'a>(starts: &[u32], entries: &'a [u32], k: usize) -> &'a 
     requires { ⌜ (k + 1 < length (now starts)) × (badEnds (length (now entries)) (runStart (now starts) k) (runEnd (now starts) k) ≡ false) ⌝ }
     ensures { λ r. ⌜ now r ≡ part (now (entries .entry)) (runStart (now (starts .entry)) k) (runEnd (now (starts .entry)) k) ⌝ }
 {
-    let from = wide(starts[k]);
-    let to = wide(starts[k + 1]);
+    let from = tables::wide(starts[k]);
+    let to = tables::wide(starts[k + 1]);
     &entries[from..to]
 }

@@ -1,13 +1,12 @@
 -- An entry judged: its footprint and the point lie on the grid, and the three outcomes, damage, too far, a hit. Assumes nothing.
-use mathlib.Core.Path.{_≡_, sym, ap, _∙_}
-use mathlib.Core.Bool.{Bool, true, false}
+use mathlib.Core.Path.{_≡_, sym, ap, ap₂, _∙_}
+use mathlib.Core.Bool.{Bool, true, false, _||_}
 use mathlib.Core.List.{List, [], _∷_}
-use Prim.Native.Nat.{ℕ, _+_, _*_, _≤_, _<_}
-use native.Mathlib.Nat.{add-zero, mul-le-mul}
+use Prim.Native.Nat.{ℕ, _+_, _≤_, _<_}
+use native.Mathlib.Nat.{add-zero}
 use native.Mathlib.Omega.{arith}
 use borrow.Author.Tests.{le-leb, lt-leb}
-use Rattle.laws.proofs.Tests.{clash}
-use Rattle.rules.specs.Sizes.{mostTiles, mostSide}
+use Rattle.laws.proofs.Tests.{clash, neither}
 use Rattle.rules.specs.Distance.{within, point}
 use Rattle.rules.specs.Register.{count, rectangle, badSpan, badFootprint, badEntry}
 use Rattle.rules.specs.Search.{isHit}
@@ -16,6 +15,7 @@ use Rattle.rules.specs.declared.Point.{Point}
 use Rattle.rules.specs.declared.Rect.{Rect}
 use Rattle.rules.proofs.Good.{good-sizes, on-grid, good-span}
 use Rattle.grid.specs.Tiles.{Near}
+use Rattle.grid.proofs.Bounds.{coordinates-most}
 use Rattle.search.specs.Reading.{Placed, keepHit, kept, JudgedEntries}
 use Rattle.search.specs.declared.Tally.{Tally}
 
@@ -25,23 +25,26 @@ tally c b = record { count = c; bad = b }
 -- ---- near enough that squares fit
 
 module _ (g : Grid) (q : Point) (ok : Placed g q) where
-  -- all coordinates are below 64×16,384
-  pub coordinates-most : g .n * g .side ≤ mostTiles * mostSide
-  coordinates-most = let s = good-sizes g (ok .sizes) in mul-le-mul {n₂ = mostTiles} {m₂ = mostSide} (s .n-most) (s .side-most)
-
   pub near-point : Near (point q)
   unfolding point
   near-point =
       let o = on-grid g q (ok .point) in
-      let m = coordinates-most in
+      let m = coordinates-most g (good-sizes g (ok .sizes)) in
       record { x = omega arith; y = omega arith }
 
   pub near-rect : (a : Rect) → badSpan g (a .x) ≡ false → badSpan g (a .y) ≡ false → Near a
   near-rect a e f =
       let sx = good-span g (a .x) e in
       let sy = good-span g (a .y) f in
-      let m = coordinates-most in
+      let m = coordinates-most g (good-sizes g (ok .sizes)) in
       record { x = omega arith; y = omega arith }
+
+  -- the point as it was made a rectangle, and a rectangle that was judged
+  pub near-made : (p : Rect) → p ≡ point q → Near p
+  near-made p e = rw e near-point
+
+  pub near-judged : (a : Rect) (b : Bool) → b ≡ badSpan g (a .x) || badSpan g (a .y) → b ≡ false → Near a
+  near-judged a b e f = let n = neither (badSpan g (a .x)) (badSpan g (a .y)) (sym e ∙ f) in near-rect a (n .0) (n .1)
 
 -- ---- whether an entry may be named
 
@@ -50,32 +53,18 @@ module _ (g : Grid) (reg : List ℕ) (i : ℕ) where
   unfolding badEntry
   bad-number h = rw (le-leb (count reg) i h)
 
-  pub bad-x : i < count reg → badSpan g (rectangle g reg i .x) ≡ true → badEntry g reg i ≡ true
-  unfolding badEntry badFootprint rectangle
-  bad-x h e = rw (lt-leb (count reg) i h, e)
-
-  pub bad-y : i < count reg → badSpan g (rectangle g reg i .x) ≡ false → badSpan g (rectangle g reg i .y) ≡ true → badEntry g reg i ≡ true
-  unfolding badEntry badFootprint rectangle
-  bad-y h e f = rw (lt-leb (count reg) i h, e, f)
-
-  pub good-entry : i < count reg → badSpan g (rectangle g reg i .x) ≡ false → badSpan g (rectangle g reg i .y) ≡ false → badEntry g reg i ≡ false
-  unfolding badEntry badFootprint rectangle
-  good-entry h e f = rw (lt-leb (count reg) i h, e, f)
-
 -- the tests of the rectangle that was read are tests of footprint i's
 module _ (g : Grid) (reg : List ℕ) (q : Point) (r i at : ℕ) (e : at ≡ i) (a : Rect) (f : a ≡ rectangle g reg at) (b : Bool) where
   is-read : a ≡ rectangle g reg i
   is-read = f ∙ ap (rectangle g reg) e
 
-  pub tested-x : b ≡ badSpan g (a .x) → badSpan g (rectangle g reg i .x) ≡ b
-  tested-x h = sym (h ∙ ap (λ (s : Rect). badSpan g (s .x)) is-read)
+  pub tested-entry : i < count reg → b ≡ badSpan g (a .x) || badSpan g (a .y) → badEntry g reg i ≡ b
+  unfolding badEntry badFootprint rectangle
+  tested-entry h k = rw (lt-leb (count reg) i h) (sym (k ∙ ap (λ (s : Rect). badSpan g (s .x) || badSpan g (s .y)) is-read))
 
-  pub tested-y : b ≡ badSpan g (a .y) → badSpan g (rectangle g reg i .y) ≡ b
-  tested-y h = sym (h ∙ ap (λ (s : Rect). badSpan g (s .y)) is-read)
-
-  pub tested-hit : b ≡ within r (point q) a → isHit g reg q r i ≡ b
+  pub tested-hit : (p : Rect) → p ≡ point q → b ≡ within r p a → isHit g reg q r i ≡ b
   unfolding isHit
-  tested-hit h = sym (h ∙ ap (within r (point q)) is-read)
+  tested-hit p k h = sym (h ∙ ap₂ (within r) k is-read)
 
 -- ---- the three outcomes
 

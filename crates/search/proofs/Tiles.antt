@@ -16,6 +16,7 @@ use Rattle.rules.specs.Search.{allowedRun, allowedRuns, visits, readRuns}
 use Rattle.rules.specs.Box.{firstColumn, lastColumn, columnsNear, boxRow}
 use Rattle.rules.specs.declared.Grid.{Grid}
 use Rattle.rules.specs.declared.Point.{Point}
+use Rattle.rules.specs.declared.Rect.{Rect}
 use Rattle.rules.specs.declared.Span.{Span}
 use Rattle.rules.proofs.Good.{good-sizes, on-grid}
 use Rattle.rules.proofs.Report.{column-again, row-again}
@@ -31,18 +32,20 @@ use Rattle.search.proofs.Pieces.{PiecesLeft, pieces-all}
 
 module _ (g : Grid) (q : Point) (r : ℕ) (ok : Placed g q) (row col : ℕ) (inside : col < g .n) where
   -- whether it is visited, by the spans that were compared
-  is-visited : (x y : Span) → x ≡ cover (g .side) col → y ≡ cover (g .side) row → (b : Bool) → b ≡ within r (point q) (record { x = x; y = y })
-      → visits g q r (tileNo g row col) ≡ b
-  is-visited x y e f b h =
+  is-visited : (x y : Span) → x ≡ cover (g .side) col → y ≡ cover (g .side) row → (p : Rect) → p ≡ point q
+      → (b : Bool) → b ≡ within r p (record { x = x; y = y }) → visits g q r (tileNo g row col) ≡ b
+  is-visited x y e f p k b h =
       visits-at g (good-sizes g (ok .sizes)) q r row col inside
-      ∙ ap₂ (λ (s u : Span). within r (point q) (record { x = s; y = u })) (sym e) (sym f) ∙ sym h
+      ∙ ap₂ (λ (s u : Span). within r (point q) (record { x = s; y = u })) (sym e) (sym f)
+      ∙ ap (λ (a : Rect). within r a (record { x = x; y = y })) (sym k) ∙ sym h
 
-  module _ (t : Tables) (x y : Span) (e : x ≡ cover (g .side) col) (f : y ≡ cover (g .side) row) (b : Bool) (h : b ≡ within r (point q) (record { x = x; y = y })) where
+  module _ (t : Tables) (x y : Span) (e : x ≡ cover (g .side) col) (f : y ≡ cover (g .side) row)
+      (p : Rect) (k : p ≡ point q) (b : Bool) (h : b ≡ within r p (record { x = x; y = y })) where
     -- a tile that is too far is not read
     pub tile-far : b ≡ false → (c : ℕ) (lent : List ℕ) → JudgedRuns g t q r (runsIn g q r (tileNo g row col ∷ [])) tileMost c lent (tally c false) lent
     unfolding runsIn goodRuns
     tile-far d c lent =
-        rw (is-visited x y e f b h ∙ d) (record { when-bad = λ z. clash (sym z); when-good = λ _. left-all _ _ c lent; few = omega arith })
+        rw (is-visited x y e f p k b h ∙ d) (record { when-bad = λ z. clash (sym z); when-good = λ _. left-all _ _ c lent; few = omega arith })
 
     -- of one that is near the allowed classes are
     pub tile-near : b ≡ true → (c : ℕ) (lent₀ : List ℕ) (z : Tally) (lent : List ℕ) (tile : ℕ) → tile ≡ tileNo g row col
@@ -50,7 +53,7 @@ module _ (g : Grid) (q : Point) (r : ℕ) (ok : Placed g q) (row col : ℕ) (ins
         → JudgedRuns g t q r (runsIn g q r (tileNo g row col ∷ [])) tileMost c lent₀ z lent
     unfolding runsIn
     tile-near d c lent₀ z lent tile same j =
-        rw (is-visited x y e f b h ∙ d, append-nil (allowedRuns g q (tileNo g row col))) (rw same at j)
+        rw (is-visited x y e f p k b h ∙ d, append-nil (allowedRuns g q (tileNo g row col))) (rw same at j)
 
   -- the mask for its place has its allowed classes
   pub mask-allows : (mask qcol qrow : ℕ) → qcol ≡ column g (q .x) → qrow ≡ column g (q .y)

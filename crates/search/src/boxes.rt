@@ -4,35 +4,11 @@ use crate::Tally;
 use crate::runs;
 use rules::Grid;
 use rules::Point;
-ghost use mathlib.Core.Path.{_≡_};
-ghost use Prim.Native.Nat.{_*_, _≤_, _<_, _^_};
-ghost use Rattle.rules.specs.Sizes.{mostTiles, mostSide, mostRadius};
+ghost use Prim.Native.Nat.{_<_, _^_};
 ghost use Rattle.rules.specs.Tables.{tables};
 ghost use Rattle.rules.specs.Search.{readRuns};
-ghost use Rattle.rules.specs.Box.{firstColumn, lastColumn, boxRow};
+ghost use Rattle.rules.specs.Box.{boxRow};
 ghost use Rattle.search.specs.Reading.{boxMost, rowMost, Ready, runsIn, JudgedRuns};
-
-// The first column within r of a coordinate.
-fn first_column(g: Grid, r: u32, x: u32) -> u32
-    ensures { λ c. ⌜ c ≡ firstColumn g r x ⌝ }
-{
-    if x < r {
-        return grid::column(g, 0);
-    }
-    grid::column(g, x - r)
-}
-
-// The last column within r of a coordinate.
-fn last_column(g: Grid, r: u32, x: u32) -> u32
-    requires { ⌜ (1 ≤ g .n) × (x ≤ mostTiles * mostSide) × (r ≤ mostRadius) ⌝ }
-    ensures { λ c. ⌜ c ≡ lastColumn g r x ⌝ }
-{
-    let c = grid::column(g, x + r);
-    if c < g.n {
-        return c;
-    }
-    g.n - 1
-}
 
 // The tiles of a row of the square's box.
 fn judge_row(
@@ -51,8 +27,8 @@ fn judge_row(
     requires { ⌜ count < 2 ^ 61 ⌝ }
     ensures { λ t. ⌜ JudgedRuns g (tables (now (reg .entry)) (now (starts .entry)) (now (entries .entry))) q r (runsIn g q r (boxRow g q r row)) rowMost count (now (lent .entry)) t (now (lent .exit)) ⌝ }
 {
-    let first = first_column(g, r, q.x);
-    let last = last_column(g, r, q.x);
+    let first = grid::near::first_column(g, r, q.x);
+    let last = grid::near::last_column(g, r, q.x);
     let mut found = count;
     let mut col = first;
     while col <= last {
@@ -82,8 +58,8 @@ pub(crate) fn judge_box(
     requires { ⌜ Ready g (now starts) q r ⌝ }
     ensures { λ t. ⌜ JudgedRuns g (tables (now (reg .entry)) (now (starts .entry)) (now (entries .entry))) q r (readRuns g q r) boxMost 0 (now (lent .entry)) t (now (lent .exit)) ⌝ }
 {
-    let first = first_column(g, r, q.y);
-    let last = last_column(g, r, q.y);
+    let first = grid::near::first_column(g, r, q.y);
+    let last = grid::near::last_column(g, r, q.y);
     let mut found = 0;
     let mut row = first;
     while row <= last {

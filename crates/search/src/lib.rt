@@ -24,17 +24,17 @@ ghost use Rattle.search.specs.Judged.{at, Counted, Writable};
 const KEPT: usize = 64;
 
 // The hits found so far, or damage.
-pub(crate) struct Tally {
-    pub(crate) count: usize,
-    pub(crate) bad: bool,
+pub struct Tally {
+    pub count: usize,
+    pub bad: bool,
 }
 
 // The hits found so far, and a part of the entries that is held back to be read with its neighbours; or damage.
-pub(crate) struct Held {
-    pub(crate) begin: usize,
-    pub(crate) past: usize,
-    pub(crate) count: usize,
-    pub(crate) bad: bool,
+pub struct Held {
+    pub begin: usize,
+    pub past: usize,
+    pub count: usize,
+    pub bad: bool,
 }
 
 // Judges a search, all but the room: the hits, which are counted, or the refusal. The first hits are kept in what is lent, while they fit;

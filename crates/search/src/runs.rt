@@ -36,8 +36,8 @@ fn hold(
     requires { ⌜ held .count + (held .past - held .begin) < 2 ^ 63 ⌝ }
     ensures { λ h. ⌜ Holds g (tables (now (reg .entry)) (now (starts .entry)) (now (entries .entry))) q r (k ∷ []) held (now (lent .entry)) h (now (lent .exit)) ⌝ }
 {
-    let a = scan::wide(starts[k]);
-    let e = scan::wide(starts[k + 1]);
+    let a = tables::wide(starts[k]);
+    let e = tables::wide(starts[k + 1]);
     if tables::bad_ends(entries.len(), a, e) {
         return Held {
             begin: 0,
@@ -90,7 +90,7 @@ fn hold_class(
     if !grid::is_on(mask, class) {
         return held;
     }
-    let k = 16 * scan::wide(tile) + scan::wide(class);
+    let k = 16 * tables::wide(tile) + tables::wide(class);
     hold(g, reg, starts, entries, q, r, k, held, lent)
 }
 
@@ -156,7 +156,7 @@ pub(crate) fn judge_at(
     let side = g.side;
     let x = grid::cover(side, col);
     let y = grid::cover(side, row);
-    if !scan::within(q, r, Rect { x: x, y: y }) {
+    if !grid::near::within(r, grid::near::point(q), Rect { x: x, y: y }) {
         return Tally {
             count: count,
             bad: false,

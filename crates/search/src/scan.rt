@@ -3,39 +3,12 @@
 use crate::Tally;
 use rules::Grid;
 use rules::Point;
-use rules::Rect;
-use rules::Span;
 ghost use mathlib.Core.Path.{_≡_};
 ghost use mathlib.Core.List.{[], _∷_};
-ghost use Prim.Native.Nat.{_+_, _-_, _*_, _≤_, _<_, _^_};
+ghost use Prim.Native.Nat.{_+_, _-_, _≤_, _<_, _^_};
 ghost use lib.ListN.{length};
 ghost use Rattle.laws.specs.Lists.{part};
-ghost use Rattle.rules.specs.Distance.{within as withinIs, point};
-ghost use Rattle.grid.specs.Tiles.{Near};
 ghost use Rattle.search.specs.Reading.{Placed, keepHit, JudgedEntries};
-
-pub(crate) fn wide(x: u32) -> usize
-    ensures { λ r. ⌜ r ≡ x ⌝ }
-{
-    x as usize
-}
-
-// r×r, which fits.
-fn squared(r: u32) -> u64
-    ensures { λ s. ⌜ s ≡ r * r ⌝ }
-{
-    (r as u64) * (r as u64)
-}
-
-// Whether a rectangle lies within r of the point: the one place where a search works out a distance.
-pub(crate) fn within(q: Point, r: u32, a: Rect) -> bool
-    requires { ⌜ Near (point q) × Near a ⌝ }
-    ensures { λ b. ⌜ b ≡ withinIs r (point q) a ⌝ }
-{
-    let x = Span { lo: q.x, hi: q.x };
-    let y = Span { lo: q.y, hi: q.y };
-    grid::square(Rect { x: x, y: y }, a) <= squared(r)
-}
 
 // The numbers that a hit writes, at the place of hit count in what is lent, where they find room.
 fn keep_hit(g: Grid, reg: &[u32], q: Point, i: u32, count: usize, lent: &mut [u32])
@@ -60,7 +33,7 @@ fn judge_entry(
     requires { ⌜ count < 2 ^ 63 ⌝ }
     ensures { λ t. ⌜ JudgedEntries g (now (reg .entry)) q r (i ∷ []) 1 count (now (lent .entry)) t (now (lent .exit)) ⌝ }
 {
-    let at = wide(i);
+    let at = tables::wide(i);
     if tables::count(reg) <= at {
         return Tally {
             count: 0,
@@ -68,21 +41,13 @@ fn judge_entry(
         };
     }
     let a = tables::footprint(g, reg, at);
-    let x = a.x;
-    if tables::bad_span(g, x) {
+    if tables::bad_rect(g, a) {
         return Tally {
             count: 0,
             bad: true,
         };
     }
-    let y = a.y;
-    if tables::bad_span(g, y) {
-        return Tally {
-            count: 0,
-            bad: true,
-        };
-    }
-    if !within(q, r, a) {
+    if !grid::near::within(r, grid::near::point(q), a) {
         return Tally {
             count: count,
             bad: false,

@@ -6,11 +6,14 @@ use rules::Rect;
 use rules::Refusal;
 use rules::Span;
 ghost use mathlib.Core.Path.{_≡_};
+ghost use mathlib.Core.Bool.{not, _||_};
 ghost use mathlib.Core.List.{[]};
-ghost use Prim.Native.Nat.{ℕ, _+_, _*_, _≤_, _<_};
+ghost use Prim.Native.Nat.{ℕ, _+_, _*_, _/_, _%_, _≤_, _<_};
+ghost use lib.Dec.{ltb, eqb};
 ghost use lib.ListN.{length};
-ghost use Rattle.rules.specs.Register.{count as countIs, rectangle, badSpan, badFootprint, badFootprints, badEntry, badRegister};
-ghost use Rattle.rules.specs.Tables.{tables, badStarts, badLengths, badEnds};
+ghost use Rattle.rules.specs.Sizes.{mostFootprints};
+ghost use Rattle.rules.specs.Register.{numbers, count as countIs, rectangle, badSpan, badFootprint, badFootprints, badEntry, badRegister};
+ghost use Rattle.rules.specs.Tables.{tables, runs, badStarts, badLengths, badEnds};
 ghost use Rattle.rules.specs.Refusals.{paperEnds};
 ghost use Rattle.rules.specs.Build.{badRun, runEnds, handsBack};
 ghost use Rattle.tables.specs.First.{firstOr};
@@ -29,21 +32,27 @@ pub fn count(reg: &[u32]) -> usize
     reg.len() / 4
 }
 
+// Whether a register of so many numbers is no multiple of four long, or has too many footprints.
+pub fn wrong_register(len: usize) -> bool
+    ensures { λ r. ⌜ r ≡ not (eqb (len % numbers) 0) || ltb mostFootprints (len / numbers) ⌝ }
+{
+    if len % 4 != 0 {
+        return true;
+    }
+    rules::MOST_FOOTPRINTS < len / 4
+}
+
 // Whether a register's length is no multiple of four, or it has too many footprints.
 pub fn bad_register(reg: &[u32]) -> bool
     ensures { λ r. ⌜ r ≡ badRegister (now (reg .entry)) ⌝ }
 {
-    if reg.len() % 4 != 0 {
-        return true;
-    }
-    rules::MOST_FOOTPRINTS < count(reg)
+    wrong_register(reg.len())
 }
 
-// Whether there are not exactly 16×n²+1 starts.
-pub fn bad_starts(g: Grid, starts: &[u32]) -> bool
-    ensures { λ r. ⌜ r ≡ badStarts g (now (starts .entry)) ⌝ }
+// Whether so many starts are not exactly 16×n²+1.
+pub fn wrong_starts(g: Grid, len: usize) -> bool
+    ensures { λ r. ⌜ r ≡ not (eqb len (runs g + 1)) ⌝ }
 {
-    let len = starts.len();
     if len == 0 {
         return true;
     }
@@ -51,6 +60,13 @@ pub fn bad_starts(g: Grid, starts: &[u32]) -> bool
         return true;
     }
     (len - 1) / 16 != grid::tile_count(g)
+}
+
+// Whether there are not exactly 16×n²+1 starts.
+pub fn bad_starts(g: Grid, starts: &[u32]) -> bool
+    ensures { λ r. ⌜ r ≡ badStarts g (now (starts .entry)) ⌝ }
+{
+    wrong_starts(g, starts.len())
 }
 
 // Whether the register or the starts have a wrong length.
@@ -90,18 +106,24 @@ pub fn bad_span(g: Grid, s: Span) -> bool
     grid::off_grid(g, s.hi)
 }
 
-// Whether footprint i meets refusal 3.
-pub fn bad_footprint(g: Grid, reg: &[u32], i: usize) -> bool
-    requires { ⌜ i < countIs (now reg) ⌝ }
-    ensures { λ r. ⌜ r ≡ badFootprint g (now (reg .entry)) i ⌝ }
+// Whether a rectangle has a bad span.
+pub fn bad_rect(g: Grid, a: Rect) -> bool
+    ensures { λ r. ⌜ r ≡ badSpan g (a .x) || badSpan g (a .y) ⌝ }
 {
-    let a = footprint(g, reg, i);
     let x = a.x;
     let y = a.y;
     if bad_span(g, x) {
         return true;
     }
     bad_span(g, y)
+}
+
+// Whether footprint i meets refusal 3.
+pub fn bad_footprint(g: Grid, reg: &[u32], i: usize) -> bool
+    requires { ⌜ i < countIs (now reg) ⌝ }
+    ensures { λ r. ⌜ r ≡ badFootprint g (now (reg .entry)) i ⌝ }
+{
+    bad_rect(g, footprint(g, reg, i))
 }
 
 // Whether no entry may name footprint i.

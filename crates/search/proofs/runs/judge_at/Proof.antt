@@ -2,7 +2,7 @@
 use borrow.Author.Tests.{not-true, not-false}
 use Rattle.rules.specs.Tables.{tables}
 use Rattle.rules.proofs.Good.{good-sizes}
-use Rattle.search.proofs.Entries.{near-point}
+use Rattle.search.proofs.Entries.{near-made}
 use Rattle.search.proofs.Tiles.{tile-far, tile-near, mask-allows}
 use native.Mathlib.Omega.{arith}
 use borrow.Author.Needs.{needs}
@@ -15,18 +15,21 @@ cover-requires c κs = let s = good-sizes (c .before .before .before .before .ar
 cover-requires-2 : tie.Need-cover-requires-2
 cover-requires-2 c κs = let s = good-sizes (c .before .before .before .before .before .args .g) (c .before .before .before .before .before .pre .0 .placed .sizes) in omega arith
 
+point-requires : tie.Need-point-requires
+point-requires c κs = search needs
+
 within-requires : tie.Need-within-requires
 within-requires c κs =
-    let a = c .before .before .before .before .before .before .args in
-    (near-point (a .g) (a .q) (c .before .before .before .before .before .before .pre .0 .placed), record { x = c .before .cover .ensures .1; y = c .cover2 .ensures .1 })
+    let a = c .before .before .before .before .before .before .before .args in
+    (near-made (a .g) (a .q) (c .before .before .before .before .before .before .before .pre .0 .placed) (c .point .result) (c .point .ensures), record { x = c .before .before .cover .ensures .1; y = c .before .cover2 .ensures .1 })
 
 returns : tie.Need-returns
 returns c =
-    let a = c .before .before .before .before .before .before .before .before .args in
-    tile-far (a .g) (a .q) (a .r) (c .before .before .before .before .before .before .before .before .pre .0 .placed) (a .row) (a .col) (c .before .before .before .before .before .before .before .before .pre .1 .0 .1) (tables (a .reg .now) (a .starts .now) (a .entries .now)) (c .before .before .before .cover .result) (c .before .before .cover2 .result) (c .before .before .before .cover .ensures .0) (c .before .before .cover2 .ensures .0) (c .before .within .result) (c .before .within .ensures) (not-true _ (c .if1 .taken)) (a .count) (a .lent .now)
+    let a = c .before .before .before .before .before .before .before .before .before .args in
+    tile-far (a .g) (a .q) (a .r) (c .before .before .before .before .before .before .before .before .before .pre .0 .placed) (a .row) (a .col) (c .before .before .before .before .before .before .before .before .before .pre .1 .0 .1) (tables (a .reg .now) (a .starts .now) (a .entries .now)) (c .before .before .before .before .cover .result) (c .before .before .before .cover2 .result) (c .before .before .before .before .cover .ensures .0) (c .before .before .before .cover2 .ensures .0) (c .before .before .point .result) (c .before .before .point .ensures) (c .before .within .result) (c .before .within .ensures) (not-true _ (c .if1 .taken)) (a .count) (a .lent .now)
 
 tile-no-requires : tie.Need-tile-no-requires
-tile-no-requires c κs = let s = good-sizes (c .before .before .before .before .before .before .before .before .args .g) (c .before .before .before .before .before .before .before .before .pre .0 .placed .sizes) in omega arith
+tile-no-requires c κs = let s = good-sizes (c .before .before .before .before .before .before .before .before .before .args .g) (c .before .before .before .before .before .before .before .before .before .pre .0 .placed .sizes) in omega arith
 
 column-requires : tie.Need-column-requires
 column-requires c κs = search needs
@@ -39,14 +42,14 @@ allowed-mask-requires c κs = search needs
 
 judge-tile-requires : tie.Need-judge-tile-requires
 judge-tile-requires c κs =
-    let a = c .before .before .before .before .before .before .before .before .before .before .before .before .before .args in (
-      c .before .before .before .before .before .before .before .before .before .before .before .before .before .pre .0,
+    let a = c .before .before .before .before .before .before .before .before .before .before .before .before .before .before .args in (
+      c .before .before .before .before .before .before .before .before .before .before .before .before .before .before .pre .0,
       (
         c .before .before .before .before .tile-no .ensures .1,
         (
-          mask-allows (a .g) (a .q) (a .r) (c .before .before .before .before .before .before .before .before .before .before .before .before .before .pre .0 .placed) (a .row) (a .col) (c .before .before .before .before .before .before .before .before .before .before .before .before .before .pre .1 .0 .1) (c .before .allowed-mask .result) (c .before .before .column2 .result) (c .before .before .before .column .result)
+          mask-allows (a .g) (a .q) (a .r) (c .before .before .before .before .before .before .before .before .before .before .before .before .before .before .pre .0 .placed) (a .row) (a .col) (c .before .before .before .before .before .before .before .before .before .before .before .before .before .before .pre .1 .0 .1) (c .before .allowed-mask .result) (c .before .before .column2 .result) (c .before .before .before .column .result)
               (c .before .before .column2 .ensures) (c .before .before .before .column .ensures) (c .before .allowed-mask .ensures) (c .before .before .before .before .tile-no .result) (c .before .before .before .before .tile-no .ensures .0),
-          c .before .before .before .before .before .before .before .before .before .before .before .before .before .pre .1 .1,
+          c .before .before .before .before .before .before .before .before .before .before .before .before .before .before .pre .1 .1,
         ),
       ),
     )
@@ -56,8 +59,8 @@ same-length c = search needs
 
 returns-2 : tie.Need-returns-2
 returns-2 c =
-    let a = c .before .before .before .before .before .before .before .before .before .before .before .before .before .before .before .before .args in
-    tile-near (a .g) (a .q) (a .r) (c .before .before .before .before .before .before .before .before .before .before .before .before .before .before .before .before .pre .0 .placed) (a .row) (a .col) (c .before .before .before .before .before .before .before .before .before .before .before .before .before .before .before .before .pre .1 .0 .1) (tables (a .reg .now) (a .starts .now) (a .entries .now)) (c .before .before .before .before .before .before .before .before .before .before .before .cover .result) (c .before .before .before .before .before .before .before .before .before .before .cover2 .result) (c .before .before .before .before .before .before .before .before .before .before .before .cover .ensures .0) (c .before .before .before .before .before .before .before .before .before .before .cover2 .ensures .0) (c .before .before .before .before .before .before .before .before .before .within .result) (c .before .before .before .before .before .before .before .before .before .within .ensures) (not-false _ (c .before .before .before .before .before .before .before .before .if1 .left)) (a .count) (a .lent .now) (c .before .before .judge-tile .result) _ (c .before .before .before .before .before .before .before .tile-no .result) (c .before .before .before .before .before .before .before .tile-no .ensures .0) (c .before .before .judge-tile .ensures)
+    let a = c .before .before .before .before .before .before .before .before .before .before .before .before .before .before .before .before .before .args in
+    tile-near (a .g) (a .q) (a .r) (c .before .before .before .before .before .before .before .before .before .before .before .before .before .before .before .before .before .pre .0 .placed) (a .row) (a .col) (c .before .before .before .before .before .before .before .before .before .before .before .before .before .before .before .before .before .pre .1 .0 .1) (tables (a .reg .now) (a .starts .now) (a .entries .now)) (c .before .before .before .before .before .before .before .before .before .before .before .before .cover .result) (c .before .before .before .before .before .before .before .before .before .before .before .cover2 .result) (c .before .before .before .before .before .before .before .before .before .before .before .before .cover .ensures .0) (c .before .before .before .before .before .before .before .before .before .before .before .cover2 .ensures .0) (c .before .before .before .before .before .before .before .before .before .before .point .result) (c .before .before .before .before .before .before .before .before .before .before .point .ensures) (c .before .before .before .before .before .before .before .before .before .within .result) (c .before .before .before .before .before .before .before .before .before .within .ensures) (not-false _ (c .before .before .before .before .before .before .before .before .if1 .left)) (a .count) (a .lent .now) (c .before .before .judge-tile .result) _ (c .before .before .before .before .before .before .before .tile-no .result) (c .before .before .before .before .before .before .before .tile-no .ensures .0) (c .before .before .judge-tile .ensures)
 
 pub judge-at-spec : {M : Type 1} → statement M
 judge-at-spec =
@@ -65,6 +68,7 @@ judge-at-spec =
     (tie.spec
     cover-requires
     cover-requires-2
+    point-requires
     within-requires
     returns
     tile-no-requires

@@ -1,9 +1,9 @@
--- `search::boxes::last_column` meets its contract: the lesser of two columns. Assumes nothing.
+-- `grid::near::last_column` meets its contract: the lesser of two columns. Assumes nothing.
 use Rattle.rules.specs.Box.{lastColumn}
 use native.Mathlib.Omega.{arith}
 use borrow.Author.Needs.{needs}
-use Rattle.search.proofs.boxes.last_column.Statement.{statement}
-use Rattle.search.proofs.boxes.last_column.Tie as tie
+use Rattle.grid.proofs.near.last_column.Statement.{statement}
+use Rattle.grid.proofs.near.last_column.Tie as tie
 
 add-column : tie.Need-add-column
 add-column c = search needs

@@ -1,12 +1,12 @@
--- `search::boxes::first_column` meets its contract: a difference cut at 0. Assumes nothing.
+-- `grid::near::first_column` meets its contract: a difference cut at 0. Assumes nothing.
 use mathlib.Core.Path.{_≡_, ap, _∙_}
 use Prim.Native.Nat.{_-_}
 use Rattle.rules.specs.Sizes.{column}
 use Rattle.rules.specs.Box.{firstColumn}
 use native.Mathlib.Omega.{arith}
 use borrow.Author.Needs.{needs}
-use Rattle.search.proofs.boxes.first_column.Statement.{statement}
-use Rattle.search.proofs.boxes.first_column.Tie as tie
+use Rattle.grid.proofs.near.first_column.Statement.{statement}
+use Rattle.grid.proofs.near.first_column.Tie as tie
 
 column-requires : tie.Need-column-requires
 column-requires c κs = search needs

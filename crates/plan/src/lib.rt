@@ -1,0 +1,3 @@
+// The plan viewer's door: build, check and search from C, over tables in little-endian bytes, read and written where they are lent.
+
+mod register; // register.rt: the register and the starts, read and judged
