@@ -2,6 +2,7 @@
 
 mod compare; // compare.rt: the one pass of the check
 mod sort; // sort.rt: the counting sort of the build
+pub mod touched; // touched.rt: the tiles that a rectangle touches
 
 use rules::Answer;
 use rules::Checked;
