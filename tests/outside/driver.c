@@ -18,7 +18,7 @@
 #include "luvgarden.h"
 
 /* what stands behind an answer's pointers before a call, so that an answer that is not written shows */
-#define UNWRITTEN 2779096485u
+#define UNWRITTEN 0xa5a5a5a5u
 
 /* ---- output */
 
