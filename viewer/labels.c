@@ -5,7 +5,7 @@
 
 enum {
     MARGIN = 40, /* between a label and what it stands at */
-    EDGE = 20,   /* between a label and the plan's edge */
+    EDGE = 25,   /* between a label and an edge that it stands beside */
     NEAR = 1600  /* how far a label may stand from what it belongs to */
 };
 
@@ -157,10 +157,10 @@ struct spots footprint_spots(struct box b, long half_width)
         long column = wide ? b.left + x : middle.x;
         add_along(&s, (struct spot){column, b.top}, (struct spot){column, b.bottom});
     }
-    add(&s, b.right + half_width, middle.y);
-    add(&s, b.left - half_width, middle.y);
-    add(&s, middle.x, b.top - HALF);
-    add(&s, middle.x, b.bottom + HALF);
+    add(&s, b.right + half_width + EDGE, middle.y);
+    add(&s, b.left - half_width - EDGE, middle.y);
+    add(&s, middle.x, b.top - HALF - EDGE);
+    add(&s, middle.x, b.bottom + HALF + EDGE);
     return s;
 }
 
