@@ -11,8 +11,8 @@
  *     other refusals   0
  * A refused call leaves all lent memory as it was (luv_ask_n says its one exception).
  *
- * A slice is a pointer and a length behind it. Pointers are never NULL, also for length 0. What a call is lent, *value and the other answer
- * pointers do not overlap.
+ * A slice is a pointer and a length behind it. Pointers are never NULL, also for length 0. What a call writes (a slice that is not const, *value,
+ * the other answer pointers) overlaps nothing else that it is lent; slices that it only reads may be the same memory.
  *
  * The tables of a yard:
  *     reg      the register: xlo, ylo, xhi, yhi of each footprint, both ends belonging to it; its number is its place from 0
