@@ -13,11 +13,6 @@ use vectors::input::next_word;
 use vectors::output::put;
 use vectors::output::put_longs;
 
-// A mark as a number: 1 where it is set.
-fn mark(set: bool) -> u64 {
-    if set { 1 } else { 0 }
-}
-
 // The answer, and the state after it: x y waiting mark.
 fn put_walked(out: &mut [u8], waiting: &mut usize, walked: Walked) {
     let answer = walked.answer;
@@ -26,7 +21,7 @@ fn put_walked(out: &mut [u8], waiting: &mut usize, walked: Walked) {
     put(out, waiting, state.x as u64);
     put(out, waiting, state.y as u64);
     put(out, waiting, state.waiting as u64);
-    put(out, waiting, mark(state.damaged));
+    put(out, waiting, outward::mark_no(state.damaged) as u64);
 }
 
 // The next state: x y waiting mark.
@@ -34,13 +29,8 @@ fn next_walk(buffer: &mut [u8], place: &mut Place) -> Walk {
     let x = next_word(buffer, place);
     let y = next_word(buffer, place);
     let rows = next_number(buffer, place, MOST_LONG);
-    let set = next_word(buffer, place);
-    Walk {
-        x: x,
-        y: y,
-        waiting: rows as usize,
-        damaged: set != 0,
-    }
+    let mark = next_word(buffer, place);
+    outward::walk_of(x, y, rows, mark)
 }
 
 fn answer_start(
