@@ -6,8 +6,6 @@
  * value, then every lent output table and state as it is afterwards. Codes 1 to 7 are build, check, run, search, start, ask and join on
  * numbers; 11, 12 and 14 are build, check and search on bytes; 23 is a run whose entries are a length alone, and its answer ends with where
  * the part begins. What is no such call, or has no memory, prints "stop" and ends.
- *
- * With NO_PLAN the functions on bytes are left out, and their codes are unknown.
  */
 #define _DEFAULT_SOURCE
 #include <stdint.h>
@@ -331,7 +329,6 @@ static void long_run(uint32_t n, uint32_t side)
 
 /* ---- the calls on bytes, which ask for no alignment: every table is lent from an odd address on */
 
-#ifndef NO_PLAN
 struct bytes {
     uint8_t *memory;
     uint8_t *numbers;
@@ -412,7 +409,6 @@ static void search_bytes(uint32_t n, uint32_t side)
     free_byte_tables(t);
     free(out.memory);
 }
-#endif
 
 /* ---- calls until the input ends before one */
 
@@ -429,11 +425,9 @@ static call *call_of(uint64_t code)
     case 5: return start;
     case 6: return ask;
     case 7: return join;
-#ifndef NO_PLAN
     case 11: return build_bytes;
     case 12: return check_bytes;
     case 14: return search_bytes;
-#endif
     case 23: return long_run;
     default: return NULL;
     }
