@@ -23,7 +23,8 @@ const ALLOWED: [[u16; 3]; 3] = [
     [0x0303, 0x3333, 0x0033],
 ];
 
-fn wide(x: u32) -> u64
+// A number as one that is multiplied or added to.
+pub fn wide(x: u32) -> u64
     ensures { λ r. ⌜ r ≡ x ⌝ }
 {
     x as u64

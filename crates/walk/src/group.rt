@@ -31,12 +31,6 @@ pub(crate) struct Tiles {
     pub(crate) many: u32,
 }
 
-fn wide(x: u32) -> u64
-    ensures { λ r. ⌜ r ≡ x ⌝ }
-{
-    x as u64
-}
-
 // What is left of a without b; 0 where b is not below a.
 fn less(a: u32, b: u32) -> u32
     ensures { λ r. ⌜ r ≡ a - b ⌝ }
@@ -57,8 +51,8 @@ pub(crate) fn group_exists(g: Grid, q: Point, d: Direction, level: u32) -> bool
     let c = grid::column(g, q.x);
     let r = grid::column(g, q.y);
     match d {
-        Direction::Up => wide(r) + wide(level) < wide(g.n),
-        Direction::Right => wide(c) + wide(level) < wide(g.n),
+        Direction::Up => grid::wide(r) + grid::wide(level) < grid::wide(g.n),
+        Direction::Right => grid::wide(c) + grid::wide(level) < grid::wide(g.n),
         Direction::Down => level <= r,
         Direction::Left => level <= c,
     }
@@ -71,7 +65,7 @@ fn gap_to(g: Grid, c: u32, col: u32) -> u64
 {
     let here = Span { lo: c, hi: c };
     let there = grid::cover(g.side, col);
-    wide(grid::gap(here, there))
+    grid::wide(grid::gap(here, there))
 }
 
 // The gap from the point to a group's row or column alone.

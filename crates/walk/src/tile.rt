@@ -32,12 +32,6 @@ pub(crate) struct Tally {
     pub(crate) bad: bool,
 }
 
-fn wide(x: u32) -> usize
-    ensures { λ r. ⌜ r ≡ x ⌝ }
-{
-    x as usize
-}
-
 // Whether an entry from begin up to past is one that may not stand.
 fn bad_part(g: Grid, reg: &[u32], entries: &[u32], begin: usize, past: usize) -> bool
     requires { ⌜ past ≤ length (now entries) ⌝ }
@@ -58,8 +52,8 @@ fn judge_run(g: Grid, reg: &[u32], starts: &[u32], entries: &[u32], k: usize) ->
     requires { ⌜ k + 1 < length (now starts) ⌝ }
     ensures { λ r. ⌜ Judged g (tables (now (reg .entry)) (now (starts .entry)) (now (entries .entry))) (k ∷ []) 1 r ⌝ }
 {
-    let begin = wide(starts[k]);
-    let past = wide(starts[k + 1]);
+    let begin = tables::wide(starts[k]);
+    let past = tables::wide(starts[k + 1]);
     if tables::bad_ends(entries.len(), begin, past) {
         return Tally {
             count: 0,
@@ -92,7 +86,13 @@ fn judge_class(
     ensures { λ r. ⌜ Judged g (tables (now (reg .entry)) (now (starts .entry)) (now (entries .entry))) (keep (isOn mask class) (16 * tile + class) []) 1 r ⌝ }
 {
     if grid::is_on(mask, class) {
-        return judge_run(g, reg, starts, entries, 16 * wide(tile) + wide(class));
+        return judge_run(
+            g,
+            reg,
+            starts,
+            entries,
+            16 * tables::wide(tile) + tables::wide(class),
+        );
     }
     Tally {
         count: 0,
@@ -145,7 +145,7 @@ fn footprint_row(g: Grid, reg: &[u32], q: Point, i: u32) -> Three
     requires { ⌜ badEntry g (now reg) i ≡ false ⌝ }
     ensures { λ r. ⌜ r ≡ waitingRow g (now (reg .entry)) q (Footprint i) ⌝ }
 {
-    let a = tables::footprint(g, reg, wide(i));
+    let a = tables::footprint(g, reg, tables::wide(i));
     let x = Span { lo: q.x, hi: q.x };
     let y = Span { lo: q.y, hi: q.y };
     let square = grid::square(Rect { x, y }, a);
@@ -202,9 +202,9 @@ fn add_class(
     ensures { λ r. ⌜ Filled (now (front .exit)) (now (batch .exit)) r (addAll (stands (now (front .entry)) (now (batch .entry)) f) (runRows g (tables (now (reg .entry)) (now (starts .entry)) (now (entries .entry))) q (keep (isOn mask class) (16 * tile + class) []))) ⌝ }
 {
     if grid::is_on(mask, class) {
-        let k = 16 * wide(tile) + wide(class);
-        let begin = wide(starts[k]);
-        let past = wide(starts[k + 1]);
+        let k = 16 * tables::wide(tile) + tables::wide(class);
+        let begin = tables::wide(starts[k]);
+        let past = tables::wide(starts[k + 1]);
         return add_part(g, reg, entries, q, front, batch, f, begin, past);
     }
     f
@@ -266,7 +266,7 @@ pub(crate) fn open_tile(
     requires { ⌜ Ready g (tables (now reg) (now starts) (now entries)) q ⌝ }
     ensures { λ r. ⌜ Filled (now (front .exit)) (now (batch .exit)) r (brought (stands (now (front .entry)) (now (batch .entry)) f) (leb (tileCount g) tile || not (goodRuns g (tables (now (reg .entry)) (now (starts .entry)) (now (entries .entry))) (allowedRuns g q tile))) (map (waitingRow g (now (reg .entry)) q) (tileBrings g (tables (now (reg .entry)) (now (starts .entry)) (now (entries .entry))) q tile))) ⌝ }
 {
-    if grid::tile_count(g) <= wide(tile) {
+    if grid::tile_count(g) <= tables::wide(tile) {
         return spoil(f);
     }
     let t = judge_tile(g, reg, starts, entries, q, tile);
