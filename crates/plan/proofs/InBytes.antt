@@ -1,0 +1,69 @@
+-- From the numbers to the bytes: what is refused before the numbers are judged, and that what a call leaves in the numbers it leaves in the bytes.
+-- Assumes nothing.
+use mathlib.Core.Path.{_≡_, sym, ap, ap₂, _∙_}
+use mathlib.Core.Bool.{true, false}
+use mathlib.Core.List.{List, [], _∷_}
+use Prim.Native.Nat.{ℕ, _%_}
+use native.Mathlib.Omega.{arith}
+use lib.ListN.{length}
+use borrow.Author.Tests.{eqb-true, not-false}
+use Rattle.laws.specs.Lists.{any}
+use Rattle.laws.proofs.Tests.{neither}
+use Rattle.rules.specs.Sizes.{badSizes}
+use Rattle.rules.specs.Refusals.{Paper, paper}
+use Rattle.rules.specs.Build.{builds, checks}
+use Rattle.rules.specs.Bytes.{words, bytes, offFour, bytesVerdict, inBytes₂, buildsBytes, checksBytes}
+use Rattle.rules.specs.declared.Grid.{Grid}
+use Rattle.rules.specs.declared.Refusal.the-variants.{Sizes, Lengths}
+use Rattle.rules.proofs.Bytes.{Below, bytes-words}
+
+-- ---- one table
+
+pub on-four : (s : List ℕ) → offFour s ≡ false → length s % 4 ≡ 0
+unfolding offFour
+on-four s h = eqb-true _ 0 (not-false _ h)
+
+-- a table that a call leaves is the bytes of its numbers
+pub left-bytes : (s s₀ : List ℕ) → offFour s₀ ≡ false → length s ≡ length s₀ → Below 256 s → s ≡ bytes (words s)
+left-bytes s s₀ h e b = sym (bytes-words s b (ap (λ (n : ℕ). n % 4) e ∙ on-four s₀ h))
+
+-- ---- build and check
+
+module _ (g : Grid) (reg starts entries : List ℕ) where
+  abbrev lent : List (List ℕ)
+  lent = reg ∷ starts ∷ entries ∷ []
+
+  pub build-sizes : badSizes g ≡ true → (paper Sizes, starts, entries) ≡ buildsBytes g reg starts entries
+  unfolding buildsBytes bytesVerdict
+  build-sizes s = rw s
+
+  pub check-sizes : badSizes g ≡ true → paper Sizes ≡ checksBytes g reg starts entries
+  unfolding checksBytes bytesVerdict
+  check-sizes s = rw s
+
+  module _ (sizes : badSizes g ≡ false) where
+    pub build-lengths : any offFour lent ≡ true → (paper Lengths, starts, entries) ≡ buildsBytes g reg starts entries
+    unfolding buildsBytes bytesVerdict
+    build-lengths o = rw (sizes, o)
+
+    pub check-lengths : any offFour lent ≡ true → paper Lengths ≡ checksBytes g reg starts entries
+    unfolding checksBytes bytesVerdict
+    check-lengths o = rw (sizes, o)
+
+    module _ (on : any offFour lent ≡ false) where
+      pub check-bytes : (p : Paper) → p ≡ checks g (words reg) (words starts) (words entries) → p ≡ checksBytes g reg starts entries
+      unfolding checksBytes bytesVerdict
+      check-bytes p h = rw (sizes, on) h
+
+      -- the starts and the entries have byte lengths on four
+      both-on : (offFour starts ≡ false) × (offFour entries ≡ false)
+      both-on =
+          let r = neither (offFour starts) (any offFour (entries ∷ [])) (neither (offFour reg) (any offFour (starts ∷ entries ∷ [])) on .1) in
+          (r .0, neither (offFour entries) false (r .1) .0)
+
+      pub build-bytes : (p : Paper) (s x : List ℕ) → Below 256 s → Below 256 x → length s ≡ length starts → length x ≡ length entries
+          → (p, words s, words x) ≡ builds g (words reg) (words starts) (words entries) → (p, s, x) ≡ buildsBytes g reg starts entries
+      unfolding buildsBytes bytesVerdict
+      build-bytes p s x bs bx ls lx h =
+          rw (sizes, on)
+          (ap₂ (λ (a b : List ℕ). (p, a, b)) (left-bytes s starts (both-on .0) ls bs) (left-bytes x entries (both-on .1) lx bx) ∙ ap inBytes₂ h)
