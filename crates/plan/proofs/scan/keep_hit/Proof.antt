@@ -1,5 +1,5 @@
 -- `plan::scan::keep_hit` meets its contract: one number a hit, at its place. Assumes nothing.
-use mathlib.Core.Path.{sym, ap, _∙_}
+use mathlib.Core.Path.{sym}
 use lib.Seq.{set-out}
 use Rattle.rules.specs.Bytes.{words}
 use Rattle.rules.specs.Search.{hitWrites}
