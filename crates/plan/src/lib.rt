@@ -1,8 +1,12 @@
 // The plan viewer's door: build, check and search from C, over tables in little-endian bytes, read and written where they are lent.
 
-mod compare; // compare.rt: the one pass of the check
 mod register; // register.rt: the register and the starts, read and judged
 mod sort; // sort.rt: the counting sort of the build
+mod compare; // compare.rt: the one pass of the check
+mod scan; // scan.rt: a search's entries, one after the other
+mod runs; // runs.rt: a tile of a search, and the runs of its allowed classes
+mod boxes; // boxes.rt: the rows and columns of a search's box
+mod radius; // radius.rt: a search judged, then written
 
 use index::Judged;
 use rules::Answer;
@@ -14,9 +18,9 @@ ghost use mathlib.Core.List.{[], _∷_};
 ghost use Rattle.laws.specs.Lists.{any};
 ghost use Rattle.rules.specs.Refusals.{pass, paperAnswer, paperChecked};
 ghost use Rattle.rules.specs.Build.{registerVerdict, builds, checks};
-ghost use Rattle.rules.specs.Bytes.{words, offFour, buildsBytes, checksBytes};
+ghost use Rattle.rules.specs.Bytes.{words, offFour, buildsBytes, checksBytes, searchesBytes};
 ghost use Rattle.index.specs.Judged.{verdict};
-ghost use Rattle.outward.specs.Outward.{told as toldIs, outward, outward₂};
+ghost use Rattle.outward.specs.Outward.{told as toldIs, outward, outward₁, outward₂};
 
 // ---- build and check
 
@@ -144,4 +148,28 @@ pub extern "C" fn luv_check(
     let checked = outward::told_checked(check(g, reg, starts, entries));
     *value = checked.value;
     checked.number
+}
+
+// ---- search
+
+// Searches around a point; value: the hits, or what the refusal names.
+#[no_mangle]
+pub extern "C" fn luv_search(
+    n: u32,
+    side: u32,
+    reg: &[u8],
+    starts: &[u8],
+    entries: &[u8],
+    x: u32,
+    y: u32,
+    r: u32,
+    out: &mut [u8],
+    value: &mut u64,
+) -> u32
+    ensures { λ k. ⌜ (toldIs k (now (value .exit)), now (out .exit)) ≡ outward₁ (searchesBytes (record { n = n; side = side }) (now (reg .entry)) (now (starts .entry)) (now (entries .entry)) (record { x = x; y = y }) r (now (out .entry))) ⌝ }
+{
+    let g = Grid { n, side };
+    let found = outward::told_answer(radius::search(g, reg, starts, entries, x, y, r, out));
+    *value = found.value;
+    found.number
 }

@@ -18,19 +18,21 @@ module _ (list out₀ : List ℕ) (count : ℕ) (fits : count ≤ length list) (
   pub copied-none : Copied list out₀ count out₀ 0
   copied-none = record { so-far = refl; most = omega arith; sized = refl }
 
-  pub copied-one : (out : List ℕ) (i : ℕ) → Copied list out₀ count out i → i < count → Copied list out₀ count (set out i (getD list i 0)) (i + 1)
-  copied-one out i p h =
+  pub copied-one : (out : List ℕ) (i : ℕ) → Copied list out₀ count out i → i < count → (out′ : List ℕ) → out′ ≡ set out i (getD list i 0)
+      → Copied list out₀ count out′ (i + 1)
+  copied-one out i p h out′ put =
       let e : length (take i list) ≡ i = length-take-le i list (omega arith) in
       let n : i < length list = omega arith in
       let m : i < length out₀ = omega arith in
       record {
-        so-far = ap (λ (l : List ℕ). set l i (getD list i 0)) (p .so-far ∙ ap (λ (l : List ℕ). take i list ++ l) (drop-cons out₀ i 0 m))
+        so-far = put
+            ∙ ap (λ (l : List ℕ). set l i (getD list i 0)) (p .so-far ∙ ap (λ (l : List ℕ). take i list ++ l) (drop-cons out₀ i 0 m))
             ∙ set-at (take i list) (getD out₀ i 0) (drop (suc i) out₀) (getD list i 0) i e
             ∙ sym (append-assoc (take i list) (getD list i 0 ∷ []) (drop (suc i) out₀))
             ∙ ap (λ (l : List ℕ). l ++ drop (suc i) out₀) (sym (take-suc list i 0 n))
             ∙ ap (λ (k : ℕ). take k list ++ drop k out₀) (sym (add-one i));
         most = omega arith;
-        sized = length-set out i (getD list i 0) ∙ p .sized;
+        sized = ap length put ∙ length-set out i (getD list i 0) ∙ p .sized;
       }
 
   pub copied-all : (out : List ℕ) (i : ℕ) → Copied list out₀ count out i → count ≤ i → out ≡ over (take count list) out₀

@@ -37,27 +37,28 @@ module _ {g : Grid} {reg entries : List ℕ} {q : Point} {r begin past c₀ : �
       few = omega (arith, p .few);
     }
 
-    module _ (lt : i < past) (inside : past ≤ length entries) {t : Tally} {lent′ : List ℕ}
-        (j : JudgedEntries g reg q r (getD entries i 0 ∷ []) 1 found lent t lent′) where
-      next : part entries i past ≡ getD entries i 0 ∷ part entries (i + 1) past
-      next = part-next entries i past lt (omega arith)
+    -- entry e, which is the next, is judged
+    module _ (lt : i < past) (inside : past ≤ length entries) {e : ℕ} (read : e ≡ getD entries i 0) {t : Tally} {lent′ : List ℕ}
+        (j : JudgedEntries g reg q r (e ∷ []) 1 found lent t lent′) where
+      next : part entries i past ≡ e ∷ part entries (i + 1) past
+      next = part-next entries i past lt (omega arith) ∙ ap (λ (n : ℕ). n ∷ part entries (i + 1) past) (sym read)
 
-      good-next : goodEntries g reg (part entries i past) ≡ (goodEntries g reg (getD entries i 0 ∷ []) && goodEntries g reg (part entries (i + 1) past))
-      good-next = ap (goodEntries g reg) next ∙ all-append (λ i. not (badEntry g reg i)) (getD entries i 0 ∷ []) (part entries (i + 1) past)
+      good-next : goodEntries g reg (part entries i past) ≡ (goodEntries g reg (e ∷ []) && goodEntries g reg (part entries (i + 1) past))
+      good-next = ap (goodEntries g reg) next ∙ all-append (λ i. not (badEntry g reg i)) (e ∷ []) (part entries (i + 1) past)
 
-      hits-next : hitsIn g reg q r (part entries i past) ≡ hitsIn g reg q r (getD entries i 0 ∷ []) ++ hitsIn g reg q r (part entries (i + 1) past)
-      hits-next = ap (hitsIn g reg q r) next ∙ filter-append (isHit g reg q r) (getD entries i 0 ∷ []) (part entries (i + 1) past)
+      hits-next : hitsIn g reg q r (part entries i past) ≡ hitsIn g reg q r (e ∷ []) ++ hitsIn g reg q r (part entries (i + 1) past)
+      hits-next = ap (hitsIn g reg q r) next ∙ filter-append (isHit g reg q r) (e ∷ []) (part entries (i + 1) past)
 
       pub part-on : t .bad ≡ false → length lent′ ≡ length lent → PartLeft g reg entries q r begin past c₀ lent₀ lent′ (t .count) (i + 1)
-      part-on e s = record {
-        left = left-on (goodEntries g reg (part entries (i + 1) past)) (hitsIn g reg q r (part entries (i + 1) past)) (p .left) good-next hits-next (j .when-good e);
+      part-on f s = record {
+        left = left-on (goodEntries g reg (part entries (i + 1) past)) (hitsIn g reg q r (part entries (i + 1) past)) (p .left) good-next hits-next (j .when-good f);
         few = omega (arith, p .few, j .few);
         sized = s ∙ p .sized;
       }
 
       pub part-bad : t .bad ≡ true → (l : List ℕ) → JudgedEntries g reg q r (part entries begin past) (past - begin) c₀ lent₀ t l
-      part-bad e l = record {
-        when-bad = λ _. left-bad (goodEntries g reg (part entries (i + 1) past)) (p .left) good-next (j .when-bad e);
-        when-good = λ f. clash (sym e ∙ f);
+      part-bad f l = record {
+        when-bad = λ _. left-bad (goodEntries g reg (part entries (i + 1) past)) (p .left) good-next (j .when-bad f);
+        when-good = λ h. clash (sym f ∙ h);
         few = omega (arith, p .few, j .few);
       }

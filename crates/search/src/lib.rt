@@ -21,7 +21,7 @@ ghost use Rattle.rules.specs.Search.{radiusHits, hitWrites, searches};
 ghost use Rattle.search.specs.Judged.{at, Counted, Writable};
 
 // How many hits the small array keeps.
-const KEPT: usize = 64;
+pub const KEPT: usize = 64;
 
 // The hits found so far, or damage.
 pub struct Tally {

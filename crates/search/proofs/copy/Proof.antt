@@ -1,4 +1,5 @@
 -- `search::copy` meets its contract: number by number from the front. Assumes nothing.
+use mathlib.Core.Path.{refl}
 use Prim.Native.Nat.{_-_}
 use Rattle.search.proofs.Copies.{Copied, copied-none, copied-one, copied-all}
 use native.Mathlib.Omega.{arith}
@@ -35,7 +36,7 @@ loop-less c = omega arith
 loop-again : tie.Need-loop-again Inv-loop μ-loop
 loop-again c =
     let a = c .before .before .before .args in let l = c .before .before .loop in
-    copied-one (a .list .now) (a .out .now) (a .count) (c .before .before .before .pre .0) (c .before .before .before .pre .1) (l .out) (l .i) (l .inv) (c .before .loop-test .taken)
+    copied-one (a .list .now) (a .out .now) (a .count) (c .before .before .before .pre .0) (c .before .before .before .pre .1) (l .out) (l .i) (l .inv) (c .before .loop-test .taken) _ refl
 
 same-length : tie.Need-same-length Inv-loop μ-loop
 same-length c = c .before .loop .inv .sized

@@ -1,4 +1,5 @@
 -- `search::scan::judge_part` meets its contract: what is left of the part, entry by entry. Assumes nothing.
+use mathlib.Core.Path.{refl}
 use Prim.Native.Nat.{_-_}
 use Rattle.search.proofs.Part.{PartLeft, part-all, part-on, part-bad, part-end}
 use native.Mathlib.Omega.{arith}
@@ -27,7 +28,7 @@ same-length : tie.Need-same-length Inv-loop μ-loop
 same-length c = let s = c .before .before .before .judge-entry .kept in omega arith
 
 returns : tie.Need-returns Inv-loop μ-loop
-returns c = part-bad (c .before .before .before .before .before .before .before .loop .inv) (omega arith) (c .before .before .before .before .before .before .before .before .before .before .before .pre .1 .0) (c .before .before .before .judge-entry .ensures) (c .if1 .taken) _
+returns c = part-bad (c .before .before .before .before .before .before .before .loop .inv) (omega arith) (c .before .before .before .before .before .before .before .before .before .before .before .pre .1 .0) refl (c .before .before .before .judge-entry .ensures) (c .if1 .taken) _
 
 add-i : tie.Need-add-i Inv-loop μ-loop
 add-i c = omega arith
@@ -36,7 +37,7 @@ loop-less : tie.Need-loop-less Inv-loop μ-loop
 loop-less c = omega arith
 
 loop-again : tie.Need-loop-again Inv-loop μ-loop
-loop-again c = part-on (c .before .before .before .before .before .before .before .loop .inv) (omega arith) (c .before .before .before .before .before .before .before .before .before .before .before .pre .1 .0) (c .before .before .before .judge-entry .ensures) (c .if1 .left) (c .before .before .before .judge-entry .kept .1 .1 .1 .1 .1 .1 .0)
+loop-again c = part-on (c .before .before .before .before .before .before .before .loop .inv) (omega arith) (c .before .before .before .before .before .before .before .before .before .before .before .pre .1 .0) refl (c .before .before .before .judge-entry .ensures) (c .if1 .left) (c .before .before .before .judge-entry .kept .1 .1 .1 .1 .1 .1 .0)
 
 same-length-2 : tie.Need-same-length-2 Inv-loop μ-loop
 same-length-2 c = c .before .loop .inv .sized
