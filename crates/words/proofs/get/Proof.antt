@@ -1,4 +1,5 @@
 -- `words::get` meets its contract. Assumes nothing.
+use mathlib.Core.Path.{sym}
 use Prim.Native.Nat.{_+_, _*_, _/_, _<_, _^_}
 use native.Mathlib.Omega.{arith}
 use lib.ListN.{length}
@@ -73,7 +74,8 @@ add-result-3 c = search needs
 returns : tie.Need-returns
 returns c =
     let s = c .before .before .before .before .before .before .before .before .before in
-    omega (arith, word-at (s .args .b .now) (s .args .k) (inside s .0))
+    rw (c .before .before .before .before .before .before .wide .ensures .0, c .before .before .before .before .wide2 .ensures .0, c .before .before .wide3 .ensures .0, c .wide4 .ensures .0)
+    (sym (word-at (s .args .b .now) (s .args .k) (inside s .0)))
 
 pub get-spec : {M : Type 1} → statement M
 get-spec =
