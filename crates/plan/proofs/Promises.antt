@@ -47,9 +47,9 @@ module _ (g : Grid) (reg starts entries : List ℕ) (q : Point) (r : ℕ) (out :
           let w = neither (offFour entries) _ (v .1) in
           neither (offFour out) false (w .1) .0
 
-      pub search-numbers : (x : Answer) (out′ : List ℕ) → length out′ ≡ length out → Below 256 out′
+      pub search-bytes : (x : Answer) (out′ : List ℕ) → length out′ ≡ length out → Below 256 out′
           → _≡_ {A = Paper × List ℕ} (paperAnswer x, words out′) (searches g (tables (words reg) (words starts) (words entries)) q r (words out))
           → (paperAnswer x, out′) ≡ searchesBytes g reg starts entries q r out
       unfolding searchesBytes bytesVerdict wordTables
-      search-numbers x out′ n below e =
+      search-bytes x out′ n below e =
           rw (a, b) (ap (λ (l : List ℕ). (paperAnswer x, l)) (sym (whole-numbers out out′ out-whole n below)) ∙ ap inBytes₁ e)

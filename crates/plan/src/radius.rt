@@ -90,7 +90,7 @@ fn write(
 }
 
 // The search at the numbers that the bytes hold: as the number door has it.
-fn search_words(
+fn search_numbers(
     g: Grid,
     reg: &[u8],
     starts: &[u8],
@@ -162,5 +162,5 @@ pub(crate) fn search(
     if off_four(reg, starts, entries, out) {
         return Answer::Refused(Refusal::Lengths);
     }
-    search_words(g, reg, starts, entries, x, y, r, out)
+    search_numbers(g, reg, starts, entries, x, y, r, out)
 }

@@ -4,7 +4,7 @@ use mathlib.Core.Bool.{false}
 use native.Mathlib.Omega.{arith}
 use Rattle.rules.specs.Sizes.{badSizes}
 use Rattle.search.specs.Judged.{at}
-use Rattle.plan.proofs.Promises.{search-sizes, search-lengths, search-numbers}
+use Rattle.plan.proofs.Promises.{search-sizes, search-lengths, search-bytes}
 use borrow.Author.Needs.{needs}
 use Rattle.plan.proofs.radius.search.Statement.{statement}
 use Rattle.plan.proofs.radius.search.Tie as tie
@@ -31,8 +31,8 @@ returns-2 c =
     let a = c .before .before .before .before .before .before .before .before .before .args in
     search-lengths (a .g) (a .reg .now) (a .starts .now) (a .entries .now) (at (a .x) (a .y)) (a .r) (a .out .now) (sizes-good (c .before .before .before)) (sym (c .before .off-four .ensures) ∙ c .if2 .taken)
 
-search-words-requires : tie.Need-search-words-requires
-search-words-requires c κs = search needs
+search-numbers-requires : tie.Need-search-numbers-requires
+search-numbers-requires c κs = search needs
 
 same-length-2 : tie.Need-same-length-2
 same-length-2 c = search needs
@@ -40,8 +40,8 @@ same-length-2 c = search needs
 returns-3 : tie.Need-returns-3
 returns-3 c =
     let a = c .before .before .before .before .before .before .before .before .before .before .before .before .before .args in
-    search-numbers (a .g) (a .reg .now) (a .starts .now) (a .entries .now) (at (a .x) (a .y)) (a .r) (a .out .now) (sizes-good (c .before .before .before .before .before .before .before)) (sym (c .before .before .before .before .before .off-four .ensures) ∙ c .before .before .before .before .if2 .left)
-    (c .before .before .search-words .result) _ (c .before .before .search-words .kept .1 .1 .1 .1 .1 .1 .1 .0) (λ i h. omega (arith, c .slice-known2 .given i)) (c .before .before .search-words .ensures)
+    search-bytes (a .g) (a .reg .now) (a .starts .now) (a .entries .now) (at (a .x) (a .y)) (a .r) (a .out .now) (sizes-good (c .before .before .before .before .before .before .before)) (sym (c .before .before .before .before .before .off-four .ensures) ∙ c .before .before .before .before .if2 .left)
+    (c .before .before .search-numbers .result) _ (c .before .before .search-numbers .kept .1 .1 .1 .1 .1 .1 .1 .0) (λ i h. omega (arith, c .slice-known2 .given i)) (c .before .before .search-numbers .ensures)
 
 pub search-spec : {M : Type 1} → statement M
 search-spec =
@@ -52,6 +52,6 @@ search-spec =
     off-four-requires
     same-length
     returns-2
-    search-words-requires
+    search-numbers-requires
     same-length-2
     returns-3)

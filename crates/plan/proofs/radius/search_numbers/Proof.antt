@@ -1,4 +1,4 @@
--- `plan::radius::search_words` meets its contract: the number door's promise, at the bytes' numbers. Assumes nothing.
+-- `plan::radius::search_numbers` meets its contract: the number door's promise, at the bytes' numbers. Assumes nothing.
 use mathlib.Core.Path.{sym, _∙_}
 use Rattle.rules.specs.Bytes.{words}
 use Rattle.rules.specs.Tables.{tables}
@@ -7,8 +7,8 @@ use Rattle.search.proofs.Verdicts.{promise-refused, promise-room, promise-done,
 use Rattle.plan.proofs.Counts.{same-count}
 use native.Mathlib.Omega.{arith}
 use borrow.Author.Needs.{needs}
-use Rattle.plan.proofs.radius.search_words.Statement.{statement}
-use Rattle.plan.proofs.radius.search_words.Tie as tie
+use Rattle.plan.proofs.radius.search_numbers.Statement.{statement}
+use Rattle.plan.proofs.radius.search_numbers.Tie as tie
 
 slice-aggregate-judge : tie.Need-slice-aggregate-judge
 slice-aggregate-judge c = search needs
@@ -55,8 +55,8 @@ returns-3 c =
     let a = c .before .before .before .before .before .before .before .before .before .before .before .before .before .before .before .before .before .before .args in
     promise-done (a .g) (tables (words (a .reg .now)) (words (a .starts .now)) (words (a .entries .now))) (at (a .x) (a .y)) (a .r) (words (a .out .now)) _ (sym (c .before .before .before .before .before .before .before .before .before .count .given .1) ∙ c .before .before .before .before .before .before .before .before .before .before .before .before .judge .ensures .answer) (omega arith) _ (c .before .before .write .ensures)
 
-pub search-words-spec : {M : Type 1} → statement M
-search-words-spec =
+pub search-numbers-spec : {M : Type 1} → statement M
+search-numbers-spec =
     tie.close
     (tie.spec
     slice-aggregate-judge
