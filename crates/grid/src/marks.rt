@@ -1,6 +1,6 @@
 // The marks of a join: for the class pair 16×(R class)+(S class) a mask of nine, bit 3×(dy+1)+(dx+1) for where S's tile lies from R's.
 ghost use mathlib.Core.Path.{_≡_};
-ghost use Prim.Native.Nat.{ℕ, _<_};
+ghost use Prim.Native.Nat.{_<_};
 ghost use Rattle.rules.specs.Span.{Place};
 ghost use Rattle.rules.specs.Classes.{marked};
 ghost use Rattle.grid.specs.Places.{position, isOn};

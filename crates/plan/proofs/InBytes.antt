@@ -4,16 +4,20 @@ use mathlib.Core.Path.{_≡_, sym, ap, ap₂, _∙_}
 use mathlib.Core.Bool.{true, false}
 use mathlib.Core.List.{List, [], _∷_}
 use Prim.Native.Nat.{ℕ, _%_}
-use native.Mathlib.Omega.{arith}
 use lib.ListN.{length}
 use borrow.Author.Tests.{eqb-true, not-false}
 use Rattle.laws.specs.Lists.{any}
 use Rattle.laws.proofs.Tests.{neither}
 use Rattle.rules.specs.Sizes.{badSizes}
-use Rattle.rules.specs.Refusals.{Paper, paper}
+use Rattle.rules.specs.Tables.{tables}
+use Rattle.rules.specs.Refusals.{Paper, paper, paperAnswer}
 use Rattle.rules.specs.Build.{builds, checks}
-use Rattle.rules.specs.Bytes.{words, bytes, offFour, bytesVerdict, inBytes₂, buildsBytes, checksBytes}
+use Rattle.rules.specs.Search.{searches}
+use Rattle.rules.specs.Bytes.{words, bytes, offFour, bytesVerdict, wordTables, inBytes₁, inBytes₂, buildsBytes, checksBytes, searchesBytes}
 use Rattle.rules.specs.declared.Grid.{Grid}
+use Rattle.rules.specs.declared.Point.{Point}
+use Rattle.rules.specs.declared.Answer.{Answer}
+use Rattle.rules.specs.declared.Answer.the-variants.{Refused}
 use Rattle.rules.specs.declared.Refusal.the-variants.{Sizes, Lengths}
 use Rattle.rules.proofs.Bytes.{Below, bytes-words}
 
@@ -67,3 +71,33 @@ module _ (g : Grid) (reg starts entries : List ℕ) where
       build-bytes p s x bs bx ls lx h =
           rw (sizes, on)
           (ap₂ (λ (a b : List ℕ). (p, a, b)) (left-bytes s starts (both-on .0) ls bs) (left-bytes x entries (both-on .1) lx bx) ∙ ap inBytes₂ h)
+
+-- ---- search
+
+module _ (g : Grid) (reg starts entries : List ℕ) (q : Point) (r : ℕ) (out : List ℕ) where
+  abbrev withOut : List (List ℕ)
+  withOut = reg ∷ starts ∷ entries ∷ out ∷ []
+
+  pub search-sizes : badSizes g ≡ true → (paperAnswer (Refused Sizes), out) ≡ searchesBytes g reg starts entries q r out
+  unfolding searchesBytes bytesVerdict paperAnswer
+  search-sizes s = rw s
+
+  module _ (sizes : badSizes g ≡ false) where
+    pub search-lengths : any offFour withOut ≡ true → (paperAnswer (Refused Lengths), out) ≡ searchesBytes g reg starts entries q r out
+    unfolding searchesBytes bytesVerdict paperAnswer
+    search-lengths o = rw (sizes, o)
+
+    module _ (on : any offFour withOut ≡ false) where
+      out-whole : offFour out ≡ false
+      out-whole =
+          let u = neither (offFour reg) _ on in
+          let v = neither (offFour starts) _ (u .1) in
+          let w = neither (offFour entries) _ (v .1) in
+          neither (offFour out) false (w .1) .0
+
+      pub search-bytes : (x : Answer) (out′ : List ℕ) → length out′ ≡ length out → Below 256 out′
+          → _≡_ {A = Paper × List ℕ} (paperAnswer x, words out′) (searches g (tables (words reg) (words starts) (words entries)) q r (words out))
+          → (paperAnswer x, out′) ≡ searchesBytes g reg starts entries q r out
+      unfolding searchesBytes bytesVerdict wordTables
+      search-bytes x out′ n below e =
+          rw (sizes, on) (ap (λ (l : List ℕ). (paperAnswer x, l)) (left-bytes out′ out out-whole n below) ∙ ap inBytes₁ e)

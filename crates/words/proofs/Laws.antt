@@ -17,11 +17,15 @@ word-count (a ∷ b ∷ []) = refl
 word-count (a ∷ b ∷ c ∷ []) = refl
 word-count (a ∷ b ∷ c ∷ d ∷ rest) = let e = word-count rest in omega arith
 
+-- as many bytes hold as many numbers
+pub same-count : (s t : List ℕ) → length s ≡ length t → length (words s) ≡ length (words t)
+same-count s t e = word-count s ∙ ap (λ (n : ℕ). n / 4) e ∙ sym (word-count t)
+
 -- the number at place k
 abbrev pub wordAt : List ℕ → ℕ → ℕ
 wordAt s k = getD s (4 * k) 0 + 256 * (getD s (4 * k + 1) 0 + 256 * (getD s (4 * k + 2) 0 + 256 * getD s (4 * k + 3) 0))
 
-up : (i : ℕ) → 4 * suc i ≡ suc (suc (suc (suc (4 * i))))
+pub up : (i : ℕ) → 4 * suc i ≡ suc (suc (suc (suc (4 * i))))
 up i = omega arith
 
 pub word-at : (s : List ℕ) (i : ℕ) → 4 * i + 3 < length s → getD (words s) i 0 ≡ wordAt s i

@@ -12,7 +12,7 @@ use Rattle.search.specs.Reading.{rowMost}
 use Rattle.search.proofs.Entries.{near-point}
 use Rattle.search.proofs.Pieces.{PiecesLeft, pieces-on, pieces-bad, pieces-end}
 use Rattle.search.proofs.Tiles.{rowRuns, box-all}
-use Rattle.plan.proofs.Counts.{same-count}
+use Rattle.words.proofs.Laws.{same-count}
 use native.Mathlib.Omega.{arith}
 use Rattle.plan.proofs.boxes.judge_box.Statement.{statement}
 use Rattle.plan.proofs.boxes.judge_box.Tie as tie

@@ -10,7 +10,7 @@ use Rattle.rules.specs.Tables.{runs}
 use Rattle.words.proofs.Laws.{word-count}
 use Rattle.index.specs.Check.{isRun, runRight}
 use Rattle.index.proofs.Right.{wrong-falling, wrong-past, run-decides}
-use Rattle.plan.proofs.Parts.{words-part}
+use Rattle.words.proofs.Parts.{words-part}
 use native.Mathlib.Omega.{arith}
 use Rattle.plan.proofs.compare.runs_right.Statement.{statement}
 use Rattle.plan.proofs.compare.runs_right.Tie as tie

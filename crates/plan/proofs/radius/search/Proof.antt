@@ -4,7 +4,7 @@ use mathlib.Core.Bool.{false}
 use native.Mathlib.Omega.{arith}
 use Rattle.rules.specs.Sizes.{badSizes}
 use Rattle.search.specs.Judged.{at}
-use Rattle.plan.proofs.Promises.{search-sizes, search-lengths, search-bytes}
+use Rattle.plan.proofs.InBytes.{search-sizes, search-lengths, search-bytes}
 use borrow.Author.Needs.{needs}
 use Rattle.plan.proofs.radius.search.Statement.{statement}
 use Rattle.plan.proofs.radius.search.Tie as tie

@@ -4,7 +4,7 @@ use Rattle.rules.specs.Bytes.{words}
 use Rattle.rules.specs.Tables.{tables}
 use Rattle.search.specs.Judged.{at}
 use Rattle.search.proofs.Verdicts.{promise-refused, promise-room, promise-done, writable}
-use Rattle.plan.proofs.Counts.{same-count}
+use Rattle.words.proofs.Laws.{same-count}
 use native.Mathlib.Omega.{arith}
 use borrow.Author.Needs.{needs}
 use Rattle.plan.proofs.radius.search_numbers.Statement.{statement}

@@ -1,13 +1,12 @@
 -- `plan::register::footprint` meets its contract: its four numbers stand in the register. Assumes nothing.
-use mathlib.Core.Path.{_≡_, ap, ap₂, _∙_}
-use Prim.Native.Nat.{ℕ, _+_, _*_, _/_, _≤_, _<_, _^_}
+use mathlib.Core.Path.{ap₂}
+use Prim.Native.Nat.{ℕ, _+_, _*_, _≤_, _<_, _^_}
 use native.Mathlib.Nat.{add-zero}
 use native.Mathlib.Omega.{arith}
 use lib.ListN.{length}
 use Rattle.rules.specs.Bytes.{words}
 use Rattle.rules.specs.Register.{recorded, rectangle}
 use Rattle.rules.specs.declared.Span.{Span}
-use Rattle.rules.specs.declared.Rect.{Rect}
 use Rattle.words.proofs.Laws.{word-count}
 use Rattle.tables.proofs.Footprints.{four-stand}
 use Rattle.plan.proofs.register.footprint.Statement.{statement}

@@ -5,7 +5,7 @@ use lib.ListN.{length}
 use Rattle.rules.specs.Bytes.{words}
 use Rattle.rules.specs.Tables.{tables}
 use Rattle.search.proofs.Classes.{TileLeft, tile-all, tile-on, tile-bad, tile-end}
-use Rattle.plan.proofs.Counts.{same-count}
+use Rattle.words.proofs.Laws.{same-count}
 use native.Mathlib.Omega.{arith}
 use Rattle.plan.proofs.runs.judge_tile.Statement.{statement}
 use Rattle.plan.proofs.runs.judge_tile.Tie as tie

@@ -4,7 +4,7 @@ use Prim.Native.Nat.{_-_}
 use lib.ListN.{length}
 use Rattle.rules.specs.Bytes.{words}
 use Rattle.search.proofs.Part.{PartLeft, part-all, part-on, part-bad, part-end}
-use Rattle.plan.proofs.Counts.{same-count}
+use Rattle.words.proofs.Laws.{same-count}
 use native.Mathlib.Omega.{arith}
 use Rattle.plan.proofs.scan.judge_part.Statement.{statement}
 use Rattle.plan.proofs.scan.judge_part.Tie as tie

@@ -6,9 +6,7 @@ use native.Mathlib.Omega.{arith}
 use lib.ListN.{take, drop}
 use Rattle.laws.specs.Lists.{part}
 use Rattle.rules.specs.Bytes.{words}
-
-up : (i : ℕ) → 4 * suc i ≡ suc (suc (suc (suc (4 * i))))
-up i = omega arith
+use Rattle.words.proofs.Laws.{up}
 
 pub words-drop : (s : List ℕ) (a : ℕ) → words (drop (4 * a) s) ≡ drop a (words s)
 unfolding words
