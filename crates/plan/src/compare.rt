@@ -1,4 +1,5 @@
 // The check over bytes: as the number door has it (`compare.rt` of `index`), one pass over the starts and the counted entries.
+use crate::register;
 use rules::Grid;
 ghost use mathlib.Core.Path.{_≡_};
 ghost use Prim.Native.Nat.{ℕ, _+_, _≤_, _<_};
@@ -17,7 +18,7 @@ fn stands(g: Grid, reg: &[u8], row: u32, col: u32, class: u32, i: usize) -> bool
     requires { ⌜ i < count (words (now reg)) ⌝ }
     ensures { λ r. ⌜ r ≡ standsAt g (words (now (reg .entry))) row col class i ⌝ }
 {
-    let a = crate::register::footprint(g, reg, i);
+    let a = register::footprint(g, reg, i);
     let x = a.x;
     let y = a.y;
     let side = g.side;
@@ -39,7 +40,7 @@ fn is_run(g: Grid, reg: &[u8], k: usize, run: &[u8]) -> bool
     let row = (k / 16 / n) as u32;
     let col = (k / 16 % n) as u32;
     let class = (k % 16) as u32;
-    let all = crate::register::count(reg);
+    let all = register::count(reg);
     let len = words::count(run);
     let mut least = 0;
     let mut j = 0;
