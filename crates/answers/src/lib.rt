@@ -2,8 +2,7 @@
 
 use rules::Answer;
 use rules::Grid;
-use rules::Rect;
-use rules::Span;
+use rules::Point;
 ghost use mathlib.Core.Path.{_≡_};
 ghost use lib.ListN.{take};
 ghost use Rattle.laws.specs.Lists.{each};
@@ -24,15 +23,7 @@ fn put_one(g: Grid, reg: &[u32], x: u32, y: u32, hit: u32, out: &mut [u8], at: u
     ensures { λ r. ⌜ (r, now (out .exit)) ≡ puts (hitOf g (now (reg .entry)) (asked x y) hit) (at, now (out .entry)) ⌝ }
 {
     let a = tables::footprint(g, reg, tables::wide(hit));
-    let across = Span { lo: x, hi: x };
-    let along = Span { lo: y, hi: y };
-    let square = grid::square(
-        Rect {
-            x: across,
-            y: along,
-        },
-        a,
-    );
+    let square = grid::square(grid::near::point(Point { x, y }), a);
     sheet::put_hit(out, at, hit, square)
 }
 

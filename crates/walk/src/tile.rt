@@ -5,9 +5,7 @@ use crate::batch::spoil;
 use rules::Grid;
 use rules::Item;
 use rules::Point;
-use rules::Rect;
 use rules::Row;
-use rules::Span;
 use rules::Three;
 ghost use mathlib.Core.Path.{_≡_};
 ghost use mathlib.Core.Bool.{true, false, not, _||_};
@@ -146,9 +144,7 @@ fn footprint_row(g: Grid, reg: &[u32], q: Point, i: u32) -> Three
     ensures { λ r. ⌜ r ≡ waitingRow g (now (reg .entry)) q (Footprint i) ⌝ }
 {
     let a = tables::footprint(g, reg, tables::wide(i));
-    let x = Span { lo: q.x, hi: q.x };
-    let y = Span { lo: q.y, hi: q.y };
-    let square = grid::square(Rect { x, y }, a);
+    let square = grid::square(grid::near::point(q), a);
     let item = Item::Footprint(i);
     front::encode(Row { square, item })
 }

@@ -2,8 +2,9 @@
 use mathlib.Core.Path.{_≡_, ap, _∙_}
 use mathlib.Core.List.{List}
 use Prim.Native.Nat.{ℕ}
-use Rattle.rules.specs.Distance.{point}
+use Rattle.rules.specs.Distance.{square}
 use Rattle.rules.specs.Register.{rectangle}
+use Rattle.rules.specs.declared.Rect.{Rect}
 use Rattle.sheet.specs.Put.{puts}
 use Rattle.answers.specs.Answers.{asked}
 use Rattle.answers.proofs.Hits.{hit-stands, point-near, hit-near, hit-is}
@@ -24,11 +25,14 @@ footprint-requires c κs =
     let a = c .before .before .before .args in
     omega (arith, hit-stands (a .g) (a .reg .now) (asked (a .x) (a .y)) (a .hit) (c .before .before .before .pre), c .wide .ensures)
 
+point-requires : tie.Need-point-requires
+point-requires c κs = search needs
+
 square-requires : tie.Need-square-requires
-unfolding point
 square-requires c κs =
-    let a = c .before .before .before .before .args in
-    (point-near (a .g) (a .reg .now) (asked (a .x) (a .y)) (a .hit) (c .before .before .before .before .pre), hit-near (a .g) (a .reg .now) (asked (a .x) (a .y)) (a .hit) (c .before .before .before .before .pre) _ (read c))
+    let s = c .before .before .before .before .before in
+    let a = s .args in
+    (rw (c .point .ensures) (point-near (a .g) (a .reg .now) (asked (a .x) (a .y)) (a .hit) (s .pre)), hit-near (a .g) (a .reg .now) (asked (a .x) (a .y)) (a .hit) (s .pre) _ (read (c .before)))
 
 put-hit-requires : tie.Need-put-hit-requires
 put-hit-requires c κs = search needs
@@ -37,10 +41,11 @@ same-length : tie.Need-same-length
 same-length c = search needs
 
 returns : tie.Need-returns
-unfolding point
 returns c =
-    let a = c .before .before .before .before .before .before .before .before .before .args in
-    c .before .before .put-hit .ensures ∙ ap (λ (l : List ℕ). puts l (a .at, a .out .now)) (hit-is (a .g) (a .reg .now) (asked (a .x) (a .y)) (a .hit) _ _ (read (c .before .before .before .before .before)) (c .before .before .before .before .square .ensures .0))
+    let a = c .before .before .before .before .before .before .before .before .before .before .args in
+    let there = c .before .before .before .before in
+    let footprint = there .before .before in
+    c .before .before .put-hit .ensures ∙ ap (λ (l : List ℕ). puts l (a .at, a .out .now)) (hit-is (a .g) (a .reg .now) (asked (a .x) (a .y)) (a .hit) _ _ (read footprint) (there .square .ensures .0 ∙ ap (λ (p : Rect). square p (footprint .footprint .result)) (there .before .point .ensures)))
 
 pub put-one-spec : {M : Type 1} → statement M
 put-one-spec =
@@ -48,6 +53,7 @@ put-one-spec =
     (tie.spec
     wide-requires
     footprint-requires
+    point-requires
     square-requires
     put-hit-requires
     same-length
