@@ -23,6 +23,9 @@ public:
     const Register reg;
     std::vector<uint32_t> starts, entries;
 
+    // Where the next entry of each run goes, while it builds.
+    std::vector<uint32_t> next;
+
 private:
     void join_tiles(const Form &s, uint32_t t, uint32_t u, int position, uint64_t most, Pairs &out) const;
 };

@@ -11,8 +11,8 @@ static void preface() {
         "Peers: Boost.Geometry's packed R-tree, a plain scan, and the same method in plain C++, which trusts its tables and judges nothing.\n"
         "Grid: n %u, side %s; %s footprints; %s digs. Yards: small footprints, long ducts, small ones with a bare half.\n"
         "Each row's answers are compared first. Then all take turns in one process: medians over %d to %d rounds.\n"
-        "Buffers: tables, outputs and fronts are made once, touched before, and reused; fresh builds go into new, untouched memory.\n"
-        "The R-tree asks for its memory anew in every build.\n",
+        "Buffers: tables, outputs and fronts are made once, touched before, and reused; the R-tree asks for its nodes anew in every build,\n"
+        "from memory touched before. Fresh builds, the R-tree's too, go into new memory, never touched.\n",
         unsigned(main_grid.n), spaced(main_grid.side).c_str(), spaced(main_footprints).c_str(), spaced(main_digs).c_str(), few_rounds,
         many_rounds);
 }
@@ -44,7 +44,7 @@ static void main_rows() {
     heading("radius", {"/ R-tree", "/ scan", "/ C++ form"});
     each(radius_rows);
     walk_preface();
-    heading("walk: a start and", {"/ R-tree", "/ scan", "/ C++ form", "zeros/product", "zeros/R-tree", "/ iterator"});
+    heading("walk", {"/ R-tree", "/ scan", "/ C++ form", "zeros/product", "zeros/R-tree", "/ iterator"});
     each(walk_rows);
     heading("join", {"/ R-tree", "/ scan", "/ C++ form"});
     each([&](Kind kind, Bed &bed) { join_rows(kind, dig_bed, bed); });

@@ -6,7 +6,7 @@
 
 namespace {
 
-// A turn is repeated until it takes this long, and it is run untimed first where it is shorter than that; both in seconds.
+// In seconds: work is repeated until a turn takes as long as the first, and is run untimed before where once takes less than the second.
 const double shortest = 0.004;
 const double long_turn = 0.1;
 
@@ -19,10 +19,24 @@ double now() {
     return double(t.tv_sec) + 1e-9 * double(t.tv_nsec);
 }
 
+double seconds_once(const Turn &turn) {
+    turn.before();
+    const double began = now();
+    turn.work();
+    return now() - began;
+}
+
 double seconds(const Turn &turn, long times) {
+    double sum = 0;
+    if (turn.before) {
+        for (long k = 0; k < times; ++k) {
+            sum += seconds_once(turn);
+        }
+        return sum;
+    }
     const double began = now();
     for (long k = 0; k < times; ++k) {
-        turn();
+        turn.work();
     }
     return now() - began;
 }
@@ -37,7 +51,7 @@ Rounds::Rounds(const std::vector<Turn> &contenders, int rounds) : times(contende
     std::vector<long> often;
     std::vector<bool> warm;
     for (const Turn &turn : contenders) {
-        turn();
+        seconds(turn, 1);
         const double once = seconds(turn, 1);
         often.push_back(std::max(1L, std::lround(std::ceil(shortest / std::max(once, 1e-9)))));
         warm.push_back(once < long_turn);
@@ -46,7 +60,7 @@ Rounds::Rounds(const std::vector<Turn> &contenders, int rounds) : times(contende
         for (size_t k = 0; k < contenders.size(); ++k) {
             const size_t who = (k + size_t(round)) % contenders.size();
             if (warm[who]) {
-                contenders[who]();
+                seconds(contenders[who], 1);
             }
             times[who].push_back(seconds(contenders[who], often[who]) / double(often[who]));
         }
@@ -54,6 +68,9 @@ Rounds::Rounds(const std::vector<Turn> &contenders, int rounds) : times(contende
 }
 
 double Rounds::ratio(size_t a, size_t b) const {
+    if (a == b) {
+        return 1;
+    }
     std::vector<double> ratios;
     for (size_t round = 0; round < times[a].size(); ++round) {
         ratios.push_back(times[a][round] / times[b][round]);

@@ -1,11 +1,16 @@
 // Contenders that take turns. Only ratios come out of here, never times.
 #pragma once
+#include <cstddef>
 #include <functional>
-#include <string>
 #include <vector>
 
-// What a contender does in a turn.
-using Turn = std::function<void()>;
+// What a contender does in a turn; what is done before it is not timed.
+struct Turn {
+    template <typename Work> Turn(Work work) : work(work) {}
+    template <typename Before, typename Work> Turn(Before before, Work work) : work(work), before(before) {}
+
+    std::function<void()> work, before;
+};
 
 // The time of each contender in each round.
 class Rounds {

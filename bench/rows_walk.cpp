@@ -62,16 +62,23 @@ void walk_row(const std::string &name, Bed &bed, const std::vector<Point> &from,
             walks(from, asks, [&](Point) { zeroing.once(); }, [&](uint32_t) { zeroing.once(); }),
         },
         few_rounds);
-    line(name, {rounds.ratio(0, 1), rounds.ratio(0, 2), rounds.ratio(0, 3), rounds.ratio(4, 0), rounds.ratio(4, 1), to_iterator(bed, asks)});
+    const double to_scan = rounds.ratio(0, 2), to_form = rounds.ratio(0, 3), zeros = rounds.ratio(4, 0);
+    if (asks.empty()) {
+        // the R-tree does nothing before the first ask
+        line(name, {none, to_scan, to_form, zeros, none, none});
+    } else {
+        line(name, {rounds.ratio(0, 1), to_scan, to_form, zeros, rounds.ratio(4, 1), to_iterator(bed, asks)});
+    }
 }
 
 } // namespace
 
 void walk_rows(Kind kind, Bed &bed) {
     const std::vector<Point> from = points(main_grid, 50);
-    const std::string name = std::string("walk, ") + name_of(kind) + ", ";
+    const std::string name = std::string("walk, ") + name_of(kind) + ", a start";
+    walk_row(name, bed, from, {});
     for (uint32_t j : {1u, 10u, 100u, 1000u}) {
-        walk_row(name + "an ask of " + spaced(j), bed, from, {j});
+        walk_row(name + " and an ask of " + spaced(j), bed, from, {j});
     }
-    walk_row(name + "100 asks of 1", bed, points(main_grid, 10), std::vector<uint32_t>(100, 1));
+    walk_row(name + " and 100 asks of 1", bed, points(main_grid, 10), std::vector<uint32_t>(100, 1));
 }

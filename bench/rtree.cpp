@@ -71,6 +71,10 @@ void Rtree::build() {
     in->tree = Tree(in->values);
 }
 
+void Rtree::drop() {
+    in->tree.clear();
+}
+
 void Rtree::search(Point q, uint32_t r, Hits &out) const {
     out.clear();
     const uint64_t most = squared(r);

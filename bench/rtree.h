@@ -13,6 +13,9 @@ public:
     // Packs the tree again, in memory that it asks for anew.
     void build();
 
+    // Leaves the tree empty until it is packed again.
+    void drop();
+
     // What meets the box around the circle, and of that what lies within r.
     void search(Point q, uint32_t r, Hits &out) const;
 

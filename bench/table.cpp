@@ -3,7 +3,7 @@
 #include <cstdio>
 
 void heading(const std::string &title, const std::vector<std::string> &columns) {
-    std::printf("\n%-42s", title.c_str());
+    std::printf("\n%-46s", title.c_str());
     for (const std::string &column : columns) {
         std::printf("%16s", column.c_str());
     }
@@ -11,7 +11,7 @@ void heading(const std::string &title, const std::vector<std::string> &columns) 
 }
 
 void line(const std::string &name, const std::vector<double> &ratios) {
-    std::printf("%-42s", name.c_str());
+    std::printf("%-46s", name.c_str());
     for (double ratio : ratios) {
         if (ratio < 0) {
             std::printf("%16s", "-");
