@@ -17,8 +17,10 @@ ghost use Rattle.rules.specs.Search.{radiusHits, hitWrites, searches};
 ghost use Rattle.rules.specs.Bytes.{words, offFour, searchesBytes};
 ghost use Rattle.search.specs.Judged.{at, Counted, Writable};
 
-// How many bytes the small array has.
+// How many bytes keep the first hits: as many numbers as at the number door, for its reasons.
 const KEPT_BYTES: usize = 4 * search::KEPT;
+
+const KEPT_WIDE_BYTES: usize = 4 * search::KEPT_WIDE;
 
 // Judges a search, all but the room: the hits, which are counted, or the refusal. The first hits are kept in what is lent, while they fit;
 // of a refused search it may keep some too.
@@ -89,6 +91,32 @@ fn write(
     boxes::judge_box(g, reg, starts, entries, Point { x: x, y: y }, r, out);
 }
 
+// The search at the numbers that the bytes hold, with bytes of any length to keep the first hits in.
+fn search_keeping(
+    g: Grid,
+    reg: &[u8],
+    starts: &[u8],
+    entries: &[u8],
+    x: u32,
+    y: u32,
+    r: u32,
+    first: &mut [u8],
+    out: &mut [u8],
+) -> Answer
+    ensures { λ a. ⌜ (paperAnswer a, words (now (out .exit))) ≡ searches g (tables (words (now (reg .entry))) (words (now (starts .entry))) (words (now (entries .entry)))) (record { x = x; y = y }) r (words (now (out .entry))) ⌝ }
+{
+    match judge(g, reg, starts, entries, x, y, r, first) {
+        Answer::Refused(v) => Answer::Refused(v),
+        Answer::Done(count) => {
+            if (words::count(out) as u64) < count {
+                return Answer::Refused(Refusal::Room(count));
+            }
+            write(g, reg, starts, entries, x, y, r, count as usize, first, out);
+            Answer::Done(count)
+        }
+    }
+}
+
 // The search at the numbers that the bytes hold: as the number door has it.
 fn search_numbers(
     g: Grid,
@@ -102,28 +130,12 @@ fn search_numbers(
 ) -> Answer
     ensures { λ a. ⌜ (paperAnswer a, words (now (out .exit))) ≡ searches g (tables (words (now (reg .entry))) (words (now (starts .entry))) (words (now (entries .entry)))) (record { x = x; y = y }) r (words (now (out .entry))) ⌝ }
 {
-    let mut first = [0u8; KEPT_BYTES];
-    match judge(g, reg, starts, entries, x, y, r, &mut first) {
-        Answer::Refused(v) => Answer::Refused(v),
-        Answer::Done(count) => {
-            if (words::count(out) as u64) < count {
-                return Answer::Refused(Refusal::Room(count));
-            }
-            write(
-                g,
-                reg,
-                starts,
-                entries,
-                x,
-                y,
-                r,
-                count as usize,
-                &first,
-                out,
-            );
-            Answer::Done(count)
-        }
+    if r <= g.side / 4 {
+        let mut first = [0u8; KEPT_BYTES];
+        return search_keeping(g, reg, starts, entries, x, y, r, &mut first, out);
     }
+    let mut first = [0u8; KEPT_WIDE_BYTES];
+    search_keeping(g, reg, starts, entries, x, y, r, &mut first, out)
 }
 
 // Whether a slice that is lent has a byte length off four.

@@ -1,7 +1,7 @@
 // The radius search: all that would be visited is judged and counted first, then written.
 // What it costs: a tile of the square's box, its square; a tile that is visited, two divisions and its sixteen classes, with two starts for
 // each that is allowed; an entry, one reading of its footprint's four numbers, for damage and distance. Neighbouring allowed classes are
-// read as one part of the entries. Entries are read a second time only where the hits do not fit the small array that keeps the first.
+// read as one part of the entries. Entries are read a second time only where the hits do not fit the array that keeps the first.
 
 mod scan; // scan.rt: entries, one after the other
 mod runs; // runs.rt: a tile, and the runs of its allowed classes
@@ -20,8 +20,11 @@ ghost use Rattle.rules.specs.Refusals.{paperAnswer};
 ghost use Rattle.rules.specs.Search.{radiusHits, hitWrites, searches};
 ghost use Rattle.search.specs.Judged.{at, Counted, Writable};
 
-// How many hits the small array keeps.
+// How many hits are kept: few where r is at most a quarter of side, for all of an array is zeroed before a search, which is then short itself;
+// many else, since what is not kept is read a second time.
 pub const KEPT: usize = 64;
+
+pub const KEPT_WIDE: usize = 2048;
 
 // The hits found so far, or damage.
 pub struct Tally {
@@ -106,6 +109,32 @@ pub(crate) fn write(
     boxes::judge_box(g, reg, starts, entries, Point { x: x, y: y }, r, out);
 }
 
+// The search, with an array of any length to keep the first hits in.
+fn search_keeping(
+    g: Grid,
+    reg: &[u32],
+    starts: &[u32],
+    entries: &[u32],
+    x: u32,
+    y: u32,
+    r: u32,
+    first: &mut [u32],
+    out: &mut [u32],
+) -> Answer
+    ensures { λ a. ⌜ (paperAnswer a, now (out .exit)) ≡ searches g (tables (now (reg .entry)) (now (starts .entry)) (now (entries .entry))) (record { x = x; y = y }) r (now (out .entry)) ⌝ }
+{
+    match judge(g, reg, starts, entries, x, y, r, first) {
+        Answer::Refused(v) => Answer::Refused(v),
+        Answer::Done(count) => {
+            if (out.len() as u64) < count {
+                return Answer::Refused(Refusal::Room(count));
+            }
+            write(g, reg, starts, entries, x, y, r, count as usize, first, out);
+            Answer::Done(count)
+        }
+    }
+}
+
 // Writes the footprints within r of a point, in the order of the radius list, and gives how many they are. A refused search writes nothing,
 // and output past the hits stays as it was. Refusals are judged in the order 1, 2, 4, 5, 7, 6.
 pub fn search(
@@ -120,26 +149,10 @@ pub fn search(
 ) -> Answer
     ensures { λ a. ⌜ (paperAnswer a, now (out .exit)) ≡ searches g (tables (now (reg .entry)) (now (starts .entry)) (now (entries .entry))) (record { x = x; y = y }) r (now (out .entry)) ⌝ }
 {
-    let mut first = [0u32; KEPT];
-    match judge(g, reg, starts, entries, x, y, r, &mut first) {
-        Answer::Refused(v) => Answer::Refused(v),
-        Answer::Done(count) => {
-            if (out.len() as u64) < count {
-                return Answer::Refused(Refusal::Room(count));
-            }
-            write(
-                g,
-                reg,
-                starts,
-                entries,
-                x,
-                y,
-                r,
-                count as usize,
-                &first,
-                out,
-            );
-            Answer::Done(count)
-        }
+    if r <= g.side / 4 {
+        let mut first = [0u32; KEPT];
+        return search_keeping(g, reg, starts, entries, x, y, r, &mut first, out);
     }
+    let mut first = [0u32; KEPT_WIDE];
+    search_keeping(g, reg, starts, entries, x, y, r, &mut first, out)
 }

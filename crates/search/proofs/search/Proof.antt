@@ -1,63 +1,41 @@
--- `search::search` meets its contract, the promise of rules. Assumes nothing.
-use mathlib.Core.Path.{sym, _∙_}
-use Rattle.rules.specs.Tables.{tables}
-use Rattle.search.specs.Judged.{at}
-use Rattle.search.proofs.Verdicts.{promise-refused, promise-room, promise-done, writable}
-use native.Mathlib.Omega.{arith}
+-- `search::search` meets its contract: the promise of `search_keeping`, which holds for either array. Assumes nothing.
 use borrow.Author.Needs.{needs}
 use Rattle.search.proofs.search.Statement.{statement}
 use Rattle.search.proofs.search.Tie as tie
 
-slice-aggregate-judge : tie.Need-slice-aggregate-judge
-slice-aggregate-judge c = search needs
+slice-aggregate-search-keeping : tie.Need-slice-aggregate-search-keeping
+slice-aggregate-search-keeping c = search needs
 
-judge-requires : tie.Need-judge-requires
-judge-requires c κs = search needs
-
-enum-known-v : tie.Need-enum-known-v
-enum-known-v c = search needs
-
-enum-known-count : tie.Need-enum-known-count
-enum-known-count c = search needs
-
-returns : tie.Need-returns
-returns c =
-    let a = c .before .before .before .before .before .before .before .before .before .before .before .args in
-    promise-room (a .g) (tables (a .reg .now) (a .starts .now) (a .entries .now)) (at (a .x) (a .y)) (a .r) (a .out .now) _ (sym (c .before .before .count .given .1) ∙ c .before .before .before .before .before .judge .ensures .answer) (omega arith)
-
-slice-aggregate-write : tie.Need-slice-aggregate-write
-slice-aggregate-write c = search needs
-
-write-requires : tie.Need-write-requires
-write-requires c κs =
-    let a = c .before .before .before .before .before .before .before .before .before .before .before .before .before .args in
-    writable (a .g) (tables (a .reg .now) (a .starts .now) (a .entries .now)) (at (a .x) (a .y)) (a .r) (c .before .before .before .before .before .before .before .judge .result) _ (c .before .before .before .before .count .given .1) _ _ (a .out .now)
-    (c .before .before .before .before .before .before .before .judge .ensures) (c .before .before .before .before .before .before .before .judge .kept .1 .1 .1 .1 .1 .1 .1 .0) (omega arith)
-
-returns-2 : tie.Need-returns-2
-returns-2 c =
-    let a = c .before .before .before .before .before .before .before .before .before .before .args in
-    promise-refused (a .g) (tables (a .reg .now) (a .starts .now) (a .entries .now)) (at (a .x) (a .y)) (a .r) (a .out .now) _ (sym (c .before .v .given .1) ∙ c .before .before .before .before .judge .ensures .answer)
+search-keeping-requires : tie.Need-search-keeping-requires
+search-keeping-requires c κs = search needs
 
 same-length : tie.Need-same-length
 same-length c = search needs
 
-returns-3 : tie.Need-returns-3
-returns-3 c =
-    let a = c .before .before .before .before .before .before .before .before .before .before .before .before .before .before .before .before .args in
-    promise-done (a .g) (tables (a .reg .now) (a .starts .now) (a .entries .now)) (at (a .x) (a .y)) (a .r) (a .out .now) _ (sym (c .before .before .before .before .before .before .before .count .given .1) ∙ c .before .before .before .before .before .before .before .before .before .before .judge .ensures .answer) (omega arith) _ (c .before .before .write .ensures)
+returns : tie.Need-returns
+returns c = c .before .before .before .search-keeping .ensures
+
+slice-aggregate-search-keeping-2 : tie.Need-slice-aggregate-search-keeping-2
+slice-aggregate-search-keeping-2 c = search needs
+
+search-keeping-requires-2 : tie.Need-search-keeping-requires-2
+search-keeping-requires-2 c κs = search needs
+
+same-length-2 : tie.Need-same-length-2
+same-length-2 c = search needs
+
+returns-2 : tie.Need-returns-2
+returns-2 c = c .before .before .before .search-keeping2 .ensures
 
 pub search-spec : {M : Type 1} → statement M
 search-spec =
     tie.close
     (tie.spec
-    slice-aggregate-judge
-    judge-requires
-    enum-known-v
-    enum-known-count
-    returns
-    slice-aggregate-write
-    write-requires
-    returns-2
+    slice-aggregate-search-keeping
+    search-keeping-requires
     same-length
-    returns-3)
+    returns
+    slice-aggregate-search-keeping-2
+    search-keeping-requires-2
+    same-length-2
+    returns-2)
