@@ -137,12 +137,12 @@ fn of_marked(
     requires { ⌜ (badSizes g ≡ false) × (goodEntries g (now «reg_r») (now «run_r») ≡ true) × Holds g (now «reg_r») «box_r» (now «run_r») × Sound g (tables (now «reg_s») (now «starts_s») (now «entries_s»)) × (t < tileCount g) × (u < tileCount g) × (p ≡ positionOf g t u) × (a < 16) × (b < 16) × (found + length (markedPairs g (now «reg_r») (tables (now «reg_s») (now «starts_s») (now «entries_s»)) r t u a (now «run_r») b) ≤ mostPairs) ⌝ }
     ensures { λ c. ⌜ state c (now (out .exit)) ≡ kept (state found (now (out .entry))) (markedPairs g (now («reg_r» .entry)) (tables (now («reg_s» .entry)) (now («starts_s» .entry)) (now («entries_s» .entry))) r t u a (now («run_r» .entry)) b) ⌝ }
 {
-    if !grid::is_on(grid::marks::marks(a, b), p) {
-        return found;
-    }
     let m = run_no(u, b);
     let run_s = run_part(starts_s, entries_s, m);
     if run_s.len() == 0 {
+        return found;
+    }
+    if !grid::is_on(grid::marks::marks(a, b), p) {
         return found;
     }
     let k = run_no(t, a);
