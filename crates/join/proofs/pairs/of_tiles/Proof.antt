@@ -14,11 +14,11 @@ use Rattle.join.proofs.pairs.of_tiles.Statement.{statement}
 use Rattle.join.proofs.pairs.of_tiles.Tie as tie
 
 abbrev Inv-loop : tie.InvT-loop
-Inv-loop g reg-r starts-r entries-r reg-s starts-s entries-s r t u found out₀ p pairs₀ a₀ out pairs a =
+Inv-loop g reg-r starts-r entries-r reg-s starts-s entries-s r masks t u found out₀ p pairs₀ a₀ out pairs a =
     OverRange (classPairs g (tables reg-r starts-r entries-r) (tables reg-s starts-s entries-s) r t u) 16 (state found out₀) (state pairs out) a
 
 abbrev μ-loop : tie.MeasureT-loop
-μ-loop g reg-r starts-r entries-r reg-s starts-s entries-s r t u found out₀ p pairs₀ a₀ out pairs a = 16 - a
+μ-loop g reg-r starts-r entries-r reg-s starts-s entries-s r masks t u found out₀ p pairs₀ a₀ out pairs a = 16 - a
 
 abbrev side-r : tie.Start Inv-loop μ-loop → Tables
 side-r s = tables (s .args .reg-r .now) (s .args .starts-r .now) (s .args .entries-r .now)
@@ -42,16 +42,16 @@ whole : (s : tie.Start Inv-loop μ-loop)
 whole s = tile-pairs (s .args .g) (side-r s) (side-s s) (s .args .r) (s .args .t) (s .args .u)
 
 position-requires : tie.Need-position-requires Inv-loop μ-loop
-position-requires c κs = let s = c .before .before .before .before .before .before .before in good-sizes (s .args .g) (s .pre .0 .sizes) .n-pos
+position-requires c κs = let s = c .before .before .before .before .before .before .before .before in good-sizes (s .args .g) (s .pre .0 .sizes) .n-pos
 
 loop-holds : tie.Need-loop-holds Inv-loop μ-loop
-loop-holds c = let s = c .before .before .before .before .before .before .before .before in range-start (inner s) 16 (first s)
+loop-holds c = let s = c .before .before .before .before .before .before .before .before .before in range-start (inner s) 16 (first s)
 
 of-class-requires : tie.Need-of-class-requires Inv-loop μ-loop
 of-class-requires c κs =
-    let s = c .before .before .before .before .before .before .before .before .before .before .before in
+    let s = c .before .before .before .before .before .before .before .before .before .before .before .before in
     let k = c .before .before in
-    (s .pre .0, s .pre .1, s .pre .2, c .before .before .before .position .ensures .0, c .before .loop-test .taken, range-few (inner s) 16 (first s) (here k) (k .loop .a) mostPairs (c .before .loop-test .taken) (k .loop .inv) (rw (whole s) at (s .pre .3)))
+    (s .pre .0, s .pre .1, s .pre .2, c .before .before .before .position .ensures .0, c .before .loop-test .taken, range-few (inner s) 16 (first s) (here k) (k .loop .a) mostPairs (c .before .loop-test .taken) (k .loop .inv) (rw (whole s) at (s .pre .3)), s .pre .4)
 
 add-a : tie.Need-add-a Inv-loop μ-loop
 add-a c = omega arith
@@ -61,19 +61,19 @@ loop-less c = omega arith
 
 loop-again : tie.Need-loop-again Inv-loop μ-loop
 loop-again c =
-    let s = c .before .before .before .before .before .before .before .before .before .before .before .before .before .before in
+    let s = c .before .before .before .before .before .before .before .before .before .before .before .before .before .before .before in
     let k = c .before .before .before .before .before in
     range-step (inner s) 16 (first s) (here k) _ (k .loop .a) (c .before .before .before .before .loop-test .taken) (k .loop .inv) (c .before .before .of-class .ensures)
 
 same-length : tie.Need-same-length Inv-loop μ-loop
 same-length c =
-    let s = c .before .before .before .before .before .before .before .before .before .before in
+    let s = c .before .before .before .before .before .before .before .before .before .before .before in
     let k = c .before in
     range-size (inner s) 16 (first s) (here k) (k .loop .a) (k .loop .inv)
 
 returns : tie.Need-returns Inv-loop μ-loop
 returns c =
-    let s = c .before .before .before .before .before .before .before .before .before .before in
+    let s = c .before .before .before .before .before .before .before .before .before .before .before in
     let k = c .before in
     range-end (inner s) 16 (first s) (here k) (k .loop .a) (c .loop-test .left) (k .loop .inv) ∙ ap (kept (first s)) (sym (whole s))
 
