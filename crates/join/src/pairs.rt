@@ -6,6 +6,7 @@ use super::masks::marks_of;
 use super::near::apart;
 use super::near::listed;
 use super::places::has_tile;
+use super::places::is_bare;
 use super::places::position;
 use super::places::run_no;
 use super::places::run_part;
@@ -205,7 +206,7 @@ fn of_class(
     pairs
 }
 
-// R's tile t with S's tile u, by R's classes.
+// R's tile t with S's tile u, by R's classes, unless one has no entries.
 fn of_tiles(
     g: Grid,
     reg_r: &[u32],
@@ -224,6 +225,12 @@ fn of_tiles(
     requires { ⌜ Judged g (tables (now «reg_r») (now «starts_r») (now «entries_r»)) (tables (now «reg_s») (now «starts_s») (now «entries_s»)) × (t < tileCount g) × (u < tileCount g) × (found + length (tilePairs g (tables (now «reg_r») (now «starts_r») (now «entries_r»)) (tables (now «reg_s») (now «starts_s») (now «entries_s»)) r t u) ≤ mostPairs) × Marks (now masks) ⌝ }
     ensures { λ c. ⌜ state c (now (out .exit)) ≡ kept (state found (now (out .entry))) (tilePairs g (tables (now («reg_r» .entry)) (now («starts_r» .entry)) (now («entries_r» .entry))) (tables (now («reg_s» .entry)) (now («starts_s» .entry)) (now («entries_s» .entry))) r t u) ⌝ }
 {
+    if is_bare(starts_r, t) {
+        return found;
+    }
+    if is_bare(starts_s, u) {
+        return found;
+    }
     let p = position(g, t, u);
     let mut pairs = found;
     let mut a = 0;
