@@ -5,6 +5,7 @@ pub mod Around
 pub mod Listing
 pub mod Sides
 pub mod Levels
+pub mod BareTiles
 pub mod Boxing
 pub mod Writing
 pub mod Verdicts

@@ -3,12 +3,13 @@ use mathlib.Core.Path.{_≡_}
 use mathlib.Core.Bool.{Bool, true, false, not}
 use mathlib.Core.List.{List, [], _∷_}
 use Prim.Native.Nat.{ℕ}
+use lib.Dec.{eqb}
 use Rattle.laws.specs.Lists.{filter, upTo, each, all, only}
 use Rattle.rules.specs.Sizes.{badSizes, rowOf, columnOf, tiles}
 use Rattle.rules.specs.Span.{place}
 use Rattle.rules.specs.Classes.{markedIn}
 use Rattle.rules.specs.Register.{badEntry}
-use Rattle.rules.specs.Tables.{Tables, badLengths, runNo, runs, runAt, goodRuns}
+use Rattle.rules.specs.Tables.{Tables, badLengths, runNo, runs, runStart, runAt, goodRuns}
 use Rattle.rules.specs.Join.{Pair, neighbours, lists, tilePairs}
 use Rattle.rules.specs.JoinSteps.{hasTile, tileAt}
 use Rattle.rules.specs.declared.Grid.{Grid}
@@ -28,6 +29,10 @@ pub record Judged (g : Grid) (tr ts : Tables) : Type 0 where
   pub sizes : badSizes g ≡ false
   pub of-r : Sound g tr
   pub of-s : Sound g ts
+
+-- the sixteen runs of a tile begin where those of the next begin
+unfoldable pub bareTile : List ℕ → ℕ → Bool
+bareTile starts t = eqb (runStart starts (runNo t 0)) (runStart starts (runNo t 16))
 
 -- ---- where S's tile u lies from R's tile t: by the sign of the offset, for any two tiles
 

@@ -1,3 +1,4 @@
 pub mod Keeping
 pub mod Levels
 pub mod Boxes
+pub mod Marks

@@ -5,6 +5,7 @@ mod keep; // keep.rt: pairs counted, and laid where they find room
 mod near; // near.rt: whether a pair is listed, and when pairs need not be looked at
 mod boxes; // boxes.rt: boxes around the footprints of a run
 mod places; // places.rt: S's tile around R's, and runs by their numbers
+mod masks; // masks.rt: the marks of all class pairs, read once
 mod pairs; // pairs.rt: the loops over tiles, classes and numbers
 
 use rules::Answer;

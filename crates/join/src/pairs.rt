@@ -1,9 +1,12 @@
 // The loops of a join, from one pair up to all tiles. Each keeps the pairs of its level behind those found before, and returns how many there are then.
 use super::boxes::box_of;
 use super::keep::keep;
+use super::masks::all_marks;
+use super::masks::marks_of;
 use super::near::apart;
 use super::near::listed;
 use super::places::has_tile;
+use super::places::is_bare;
 use super::places::position;
 use super::places::run_no;
 use super::places::run_part;
@@ -20,6 +23,7 @@ ghost use Rattle.rules.specs.Tables.{tables};
 ghost use Rattle.rules.specs.Join.{classPairs, tilePairs, joinPairs};
 ghost use Rattle.join.specs.Keeping.{state, kept, mostPairs};
 ghost use Rattle.join.specs.Boxes.{Holds};
+ghost use Rattle.join.specs.Marks.{Marks};
 ghost use Rattle.join.specs.Levels.{goodEntries, Sound, Judged, positionOf, onePair, entryPairs, runsPairs, markedPairs, pairsAt, aroundPairs};
 
 // R's number i and S's number j, where they are listed.
@@ -126,6 +130,7 @@ fn of_marked(
     starts_s: &[u32],
     entries_s: &[u32],
     r: u32,
+    masks: &[u16],
     t: u32,
     u: u32,
     p: u32,
@@ -134,7 +139,7 @@ fn of_marked(
     found: u64,
     out: &mut [u32],
 ) -> u64
-    requires { ⌜ (badSizes g ≡ false) × (goodEntries g (now «reg_r») (now «run_r») ≡ true) × Holds g (now «reg_r») «box_r» (now «run_r») × Sound g (tables (now «reg_s») (now «starts_s») (now «entries_s»)) × (t < tileCount g) × (u < tileCount g) × (p ≡ positionOf g t u) × (a < 16) × (b < 16) × (found + length (markedPairs g (now «reg_r») (tables (now «reg_s») (now «starts_s») (now «entries_s»)) r t u a (now «run_r») b) ≤ mostPairs) ⌝ }
+    requires { ⌜ (badSizes g ≡ false) × (goodEntries g (now «reg_r») (now «run_r») ≡ true) × Holds g (now «reg_r») «box_r» (now «run_r») × Sound g (tables (now «reg_s») (now «starts_s») (now «entries_s»)) × (t < tileCount g) × (u < tileCount g) × (p ≡ positionOf g t u) × (a < 16) × (b < 16) × (found + length (markedPairs g (now «reg_r») (tables (now «reg_s») (now «starts_s») (now «entries_s»)) r t u a (now «run_r») b) ≤ mostPairs) × Marks (now masks) ⌝ }
     ensures { λ c. ⌜ state c (now (out .exit)) ≡ kept (state found (now (out .entry))) (markedPairs g (now («reg_r» .entry)) (tables (now («reg_s» .entry)) (now («starts_s» .entry)) (now («entries_s» .entry))) r t u a (now («run_r» .entry)) b) ⌝ }
 {
     let m = run_no(u, b);
@@ -142,7 +147,7 @@ fn of_marked(
     if run_s.len() == 0 {
         return found;
     }
-    if !grid::is_on(grid::marks::marks(a, b), p) {
+    if !grid::is_on(marks_of(masks, a, b), p) {
         return found;
     }
     let k = run_no(t, a);
@@ -159,6 +164,7 @@ fn of_class(
     starts_s: &[u32],
     entries_s: &[u32],
     r: u32,
+    masks: &[u16],
     t: u32,
     u: u32,
     p: u32,
@@ -166,7 +172,7 @@ fn of_class(
     found: u64,
     out: &mut [u32],
 ) -> u64
-    requires { ⌜ Judged g (tables (now «reg_r») (now «starts_r») (now «entries_r»)) (tables (now «reg_s») (now «starts_s») (now «entries_s»)) × (t < tileCount g) × (u < tileCount g) × (p ≡ positionOf g t u) × (a < 16) × (found + length (classPairs g (tables (now «reg_r») (now «starts_r») (now «entries_r»)) (tables (now «reg_s») (now «starts_s») (now «entries_s»)) r t u a) ≤ mostPairs) ⌝ }
+    requires { ⌜ Judged g (tables (now «reg_r») (now «starts_r») (now «entries_r»)) (tables (now «reg_s») (now «starts_s») (now «entries_s»)) × (t < tileCount g) × (u < tileCount g) × (p ≡ positionOf g t u) × (a < 16) × (found + length (classPairs g (tables (now «reg_r») (now «starts_r») (now «entries_r»)) (tables (now «reg_s») (now «starts_s») (now «entries_s»)) r t u a) ≤ mostPairs) × Marks (now masks) ⌝ }
     ensures { λ c. ⌜ state c (now (out .exit)) ≡ kept (state found (now (out .entry))) (classPairs g (tables (now («reg_r» .entry)) (now («starts_r» .entry)) (now («entries_r» .entry))) (tables (now («reg_s» .entry)) (now («starts_s» .entry)) (now («entries_s» .entry))) r t u a) ⌝ }
 {
     let run_r = run_part(starts_r, entries_r, run_no(t, a));
@@ -186,6 +192,7 @@ fn of_class(
             starts_s,
             entries_s,
             r,
+            masks,
             t,
             u,
             p,
@@ -199,7 +206,7 @@ fn of_class(
     pairs
 }
 
-// R's tile t with S's tile u, by R's classes.
+// R's tile t with S's tile u, by R's classes, unless one has no entries.
 fn of_tiles(
     g: Grid,
     reg_r: &[u32],
@@ -209,14 +216,21 @@ fn of_tiles(
     starts_s: &[u32],
     entries_s: &[u32],
     r: u32,
+    masks: &[u16],
     t: u32,
     u: u32,
     found: u64,
     out: &mut [u32],
 ) -> u64
-    requires { ⌜ Judged g (tables (now «reg_r») (now «starts_r») (now «entries_r»)) (tables (now «reg_s») (now «starts_s») (now «entries_s»)) × (t < tileCount g) × (u < tileCount g) × (found + length (tilePairs g (tables (now «reg_r») (now «starts_r») (now «entries_r»)) (tables (now «reg_s») (now «starts_s») (now «entries_s»)) r t u) ≤ mostPairs) ⌝ }
+    requires { ⌜ Judged g (tables (now «reg_r») (now «starts_r») (now «entries_r»)) (tables (now «reg_s») (now «starts_s») (now «entries_s»)) × (t < tileCount g) × (u < tileCount g) × (found + length (tilePairs g (tables (now «reg_r») (now «starts_r») (now «entries_r»)) (tables (now «reg_s») (now «starts_s») (now «entries_s»)) r t u) ≤ mostPairs) × Marks (now masks) ⌝ }
     ensures { λ c. ⌜ state c (now (out .exit)) ≡ kept (state found (now (out .entry))) (tilePairs g (tables (now («reg_r» .entry)) (now («starts_r» .entry)) (now («entries_r» .entry))) (tables (now («reg_s» .entry)) (now («starts_s» .entry)) (now («entries_s» .entry))) r t u) ⌝ }
 {
+    if is_bare(starts_r, t) {
+        return found;
+    }
+    if is_bare(starts_s, u) {
+        return found;
+    }
     let p = position(g, t, u);
     let mut pairs = found;
     let mut a = 0;
@@ -230,6 +244,7 @@ fn of_tiles(
             starts_s,
             entries_s,
             r,
+            masks,
             t,
             u,
             p,
@@ -252,12 +267,13 @@ fn of_position(
     starts_s: &[u32],
     entries_s: &[u32],
     r: u32,
+    masks: &[u16],
     t: u32,
     p: u32,
     found: u64,
     out: &mut [u32],
 ) -> u64
-    requires { ⌜ Judged g (tables (now «reg_r») (now «starts_r») (now «entries_r»)) (tables (now «reg_s») (now «starts_s») (now «entries_s»)) × (t < tileCount g) × (p < 9) × (found + length (pairsAt g (tables (now «reg_r») (now «starts_r») (now «entries_r»)) (tables (now «reg_s») (now «starts_s») (now «entries_s»)) r t p) ≤ mostPairs) ⌝ }
+    requires { ⌜ Judged g (tables (now «reg_r») (now «starts_r») (now «entries_r»)) (tables (now «reg_s») (now «starts_s») (now «entries_s»)) × (t < tileCount g) × (p < 9) × (found + length (pairsAt g (tables (now «reg_r») (now «starts_r») (now «entries_r»)) (tables (now «reg_s») (now «starts_s») (now «entries_s»)) r t p) ≤ mostPairs) × Marks (now masks) ⌝ }
     ensures { λ c. ⌜ state c (now (out .exit)) ≡ kept (state found (now (out .entry))) (pairsAt g (tables (now («reg_r» .entry)) (now («starts_r» .entry)) (now («entries_r» .entry))) (tables (now («reg_s» .entry)) (now («starts_s» .entry)) (now («entries_s» .entry))) r t p) ⌝ }
 {
     if !has_tile(g, t, p) {
@@ -273,6 +289,7 @@ fn of_position(
         starts_s,
         entries_s,
         r,
+        masks,
         t,
         u,
         found,
@@ -290,11 +307,12 @@ fn of_tile(
     starts_s: &[u32],
     entries_s: &[u32],
     r: u32,
+    masks: &[u16],
     t: u32,
     found: u64,
     out: &mut [u32],
 ) -> u64
-    requires { ⌜ Judged g (tables (now «reg_r») (now «starts_r») (now «entries_r»)) (tables (now «reg_s») (now «starts_s») (now «entries_s»)) × (t < tileCount g) × (found + length (aroundPairs g (tables (now «reg_r») (now «starts_r») (now «entries_r»)) (tables (now «reg_s») (now «starts_s») (now «entries_s»)) r t) ≤ mostPairs) ⌝ }
+    requires { ⌜ Judged g (tables (now «reg_r») (now «starts_r») (now «entries_r»)) (tables (now «reg_s») (now «starts_s») (now «entries_s»)) × (t < tileCount g) × (found + length (aroundPairs g (tables (now «reg_r») (now «starts_r») (now «entries_r»)) (tables (now «reg_s») (now «starts_s») (now «entries_s»)) r t) ≤ mostPairs) × Marks (now masks) ⌝ }
     ensures { λ c. ⌜ state c (now (out .exit)) ≡ kept (state found (now (out .entry))) (aroundPairs g (tables (now («reg_r» .entry)) (now («starts_r» .entry)) (now («entries_r» .entry))) (tables (now («reg_s» .entry)) (now («starts_s» .entry)) (now («entries_s» .entry))) r t) ⌝ }
 {
     let mut pairs = found;
@@ -309,12 +327,52 @@ fn of_tile(
             starts_s,
             entries_s,
             r,
+            masks,
             t,
             p,
             pairs,
             out,
         );
         p += 1;
+    }
+    pairs
+}
+
+// R's tiles one after the other.
+fn of_all(
+    g: Grid,
+    reg_r: &[u32],
+    starts_r: &[u32],
+    entries_r: &[u32],
+    reg_s: &[u32],
+    starts_s: &[u32],
+    entries_s: &[u32],
+    r: u32,
+    masks: &[u16],
+    out: &mut [u32],
+) -> u64
+    requires { ⌜ Judged g (tables (now «reg_r») (now «starts_r») (now «entries_r»)) (tables (now «reg_s») (now «starts_s») (now «entries_s»)) × Marks (now masks) ⌝ }
+    ensures { λ c. ⌜ state c (now (out .exit)) ≡ kept (state 0 (now (out .entry))) (joinPairs g (tables (now («reg_r» .entry)) (now («starts_r» .entry)) (now («entries_r» .entry))) (tables (now («reg_s» .entry)) (now («starts_s» .entry)) (now («entries_s» .entry))) r) ⌝ }
+{
+    let tiles = g.n * g.n;
+    let mut pairs = 0;
+    let mut t = 0;
+    while t < tiles {
+        pairs = of_tile(
+            g,
+            reg_r,
+            starts_r,
+            entries_r,
+            reg_s,
+            starts_s,
+            entries_s,
+            r,
+            masks,
+            t,
+            pairs,
+            out,
+        );
+        t += 1;
     }
     pairs
 }
@@ -334,24 +392,18 @@ pub(crate) fn all(
     requires { ⌜ Judged g (tables (now «reg_r») (now «starts_r») (now «entries_r»)) (tables (now «reg_s») (now «starts_s») (now «entries_s»)) ⌝ }
     ensures { λ c. ⌜ state c (now (out .exit)) ≡ kept (state 0 (now (out .entry))) (joinPairs g (tables (now («reg_r» .entry)) (now («starts_r» .entry)) (now («entries_r» .entry))) (tables (now («reg_s» .entry)) (now («starts_s» .entry)) (now («entries_s» .entry))) r) ⌝ }
 {
-    let tiles = g.n * g.n;
-    let mut pairs = 0;
-    let mut t = 0;
-    while t < tiles {
-        pairs = of_tile(
-            g,
-            reg_r,
-            starts_r,
-            entries_r,
-            reg_s,
-            starts_s,
-            entries_s,
-            r,
-            t,
-            pairs,
-            out,
-        );
-        t += 1;
-    }
-    pairs
+    let mut masks = [0u16; 256];
+    all_marks(&mut masks);
+    of_all(
+        g,
+        reg_r,
+        starts_r,
+        entries_r,
+        reg_s,
+        starts_s,
+        entries_s,
+        r,
+        &masks,
+        out,
+    )
 }

@@ -2,13 +2,13 @@
 use rules::Grid;
 ghost use mathlib.Core.Path.{_≡_};
 ghost use mathlib.Core.Bool.{true, false};
-ghost use Prim.Native.Nat.{_+_, _≤_, _<_};
+ghost use Prim.Native.Nat.{_+_, _*_, _≤_, _<_};
 ghost use lib.ListN.{length};
 ghost use Rattle.laws.specs.Lists.{part};
 ghost use Rattle.rules.specs.Sizes.{tileCount};
 ghost use Rattle.rules.specs.Tables.{runNo, runStart, runEnd, badEnds};
 ghost use Rattle.rules.specs.JoinSteps.{reaches as reachesIs, hasTile, tileAt};
-ghost use Rattle.join.specs.Levels.{positionOf};
+ghost use Rattle.join.specs.Levels.{bareTile, positionOf};
 
 // Whether the column or row at offset d−1 from c is one of n.
 fn reaches(n: u32, c: u32, d: u32) -> bool
@@ -66,4 +66,13 @@ pub(crate) fn run_part<'a>(starts: &[u32], entries: &'a [u32], k: usize) -> &'a 
     let from = tables::wide(starts[k]);
     let to = tables::wide(starts[k + 1]);
     &entries[from..to]
+}
+
+// Whether tile t of a side that shows no damage has no entries: no start falls, so its first start and the next tile's tell it.
+pub(crate) fn is_bare(starts: &[u32], t: u32) -> bool
+    requires { ⌜ (t < 4096) × (16 * t + 16 < length (now starts)) ⌝ }
+    ensures { λ r. ⌜ r ≡ bareTile (now (starts .entry)) t ⌝ }
+{
+    let k = run_no(t, 0);
+    starts[k] == starts[k + 16]
 }

@@ -25,7 +25,7 @@ side-s s = tables (s .args .reg-s .now) (s .args .starts-s .now) (s .args .entri
 abbrev first : tie.Start → Kept
 first s = state (s .args .found) (s .args .out .now)
 
-there : (c : tie.Else1) → hasTile (c .before .before .before .before .before .before .before .before .before .args .g) (c .before .before .before .before .before .before .before .before .before .args .t) (c .before .before .before .before .before .before .before .before .before .args .p) ≡ true
+there : (c : tie.Else1) → hasTile (c .before .before .before .before .before .before .before .before .before .before .args .g) (c .before .before .before .before .before .before .before .before .before .before .args .t) (c .before .before .before .before .before .before .before .before .before .before .args .p) ≡ true
 there c = sym (c .before .has-tile .ensures) ∙ not-false _ (c .if1 .left)
 
 -- the pairs with the tile that is there
@@ -35,40 +35,40 @@ all-pairs s = pairsAt (s .args .g) (side-r s) (side-s s) (s .args .r) (s .args .
 abbrev inner : tie.Start → ℕ → List Pair
 inner s u = tilePairs (s .args .g) (side-r s) (side-s s) (s .args .r) (s .args .t) u
 
-whole : (c : tie.After-tile-at) → all-pairs (c .before .before .before .before .before .before .before .before .before .before) ≡ inner (c .before .before .before .before .before .before .before .before .before .before) (c .tile-at .result)
+whole : (c : tie.After-tile-at) → all-pairs (c .before .before .before .before .before .before .before .before .before .before .before) ≡ inner (c .before .before .before .before .before .before .before .before .before .before .before) (c .tile-at .result)
 whole c =
-    let s = c .before .before .before .before .before .before .before .before .before .before in
+    let s = c .before .before .before .before .before .before .before .before .before .before .before in
     pairs-at (s .args .g) (side-r s) (side-s s) (s .args .r) (s .args .t) (s .args .p) (c .tile-at .result) (there (c .before)) (c .tile-at .ensures)
 
 has-tile-requires : tie.Need-has-tile-requires
 has-tile-requires c κs =
-    let s = c .before .before .before .before .before .before .before in
+    let s = c .before .before .before .before .before .before .before .before in
     let z = good-sizes (s .args .g) (s .pre .0 .sizes) in
     (z .n-pos, z .n-most, s .pre .1, s .pre .2)
 
 returns : tie.Need-returns
 returns c =
-    let s = c .before .before .before .before .before .before .before .before .before in
+    let s = c .before .before .before .before .before .before .before .before .before .before in
     keeps-none (first s)
     (no-pairs-at (s .args .g) (side-r s) (side-s s) (s .args .r) (s .args .t) (s .args .p) (sym (c .before .has-tile .ensures) ∙ not-true _ (c .if1 .taken)))
 
 tile-at-requires : tie.Need-tile-at-requires
 tile-at-requires c κs =
-    let s = c .before .before .before .before .before .before .before .before .before in
+    let s = c .before .before .before .before .before .before .before .before .before .before in
     let z = good-sizes (s .args .g) (s .pre .0 .sizes) in
     (z .n-pos, z .n-most, s .pre .1, s .pre .2, there (c))
 
 of-tiles-requires : tie.Need-of-tiles-requires
 of-tiles-requires c κs =
-    let s = c .before .before .before .before .before .before .before .before .before .before .before in
+    let s = c .before .before .before .before .before .before .before .before .before .before .before .before in
     let inside = tile-at-below (s .args .g) (good-sizes (s .args .g) (s .pre .0 .sizes)) (s .args .t) (s .pre .1) (s .args .p) (s .pre .2) (there (c .before .before)) in
-    (s .pre .0, s .pre .1, rw (c .before .tile-at .ensures) inside, rw (← whole (c .before)) (s .pre .3))
+    (s .pre .0, s .pre .1, rw (c .before .tile-at .ensures) inside, rw (← whole (c .before)) (s .pre .3), s .pre .4)
 
 same-length : tie.Need-same-length
 same-length c = search needs
 
 returns-2 : tie.Need-returns-2
-returns-2 c = c .before .before .of-tiles .ensures ∙ ap (kept (first (c .before .before .before .before .before .before .before .before .before .before .before .before .before .before))) (sym (whole (c .before .before .before .before)))
+returns-2 c = c .before .before .of-tiles .ensures ∙ ap (kept (first (c .before .before .before .before .before .before .before .before .before .before .before .before .before .before .before))) (sym (whole (c .before .before .before .before)))
 
 pub of-position-spec : {M : Type 1} → statement M
 of-position-spec =
