@@ -3,9 +3,10 @@
 use mathlib.Core.Path.{_≡_}
 use mathlib.Core.Bool.{true, false}
 use mathlib.Core.List.{List}
-use Prim.Native.Nat.{ℕ, _+_, _≤_, _<_}
+use Prim.Native.Nat.{ℕ, _+_, _*_, _≤_, _<_}
 use native.Mathlib.Omega.{arith}
 use lib.ListN.{length}
+use borrow.Author.Tests.{lt-leb}
 use Rattle.rules.specs.Sizes.{badSizes}
 use Rattle.rules.specs.Register.{count, rectangle, badEntry}
 use Rattle.rules.specs.Join.{lists}
@@ -13,7 +14,7 @@ use Rattle.rules.specs.declared.Grid.{Grid}
 use Rattle.rules.proofs.Good.{good-sizes, good-entry, good-rectangle}
 use Rattle.grid.specs.Tiles.{Near}
 use Rattle.grid.proofs.Bounds.{coordinates-most}
-use Rattle.join.specs.Keeping.{Kept, keepOne, kept, mostPairs}
+use Rattle.join.specs.Keeping.{Kept, state, lay, keepOne, kept, mostPairs}
 use Rattle.join.specs.Levels.{onePair}
 
 pub named-below : (g : Grid) (reg : List ℕ) (i : ℕ) → badEntry g reg i ≡ false → i < count reg
@@ -39,3 +40,9 @@ module _ (g : Grid) (regR regS : List ℕ) (r k m i j : ℕ) where
   pub none-kept : (s : Kept) → lists g regR regS r k m (i, j) ≡ false → s ≡ kept s (onePair g regR regS r k m i j)
   unfolding onePair kept
   none-kept s e = rw e
+
+  -- without room it is counted alone
+  pub one-counted : (found : ℕ) (out : List ℕ) → lists g regR regS r k m (i, j) ≡ true → length out < 2 * found + 2
+      → state (found + 1) out ≡ kept (state found out) (onePair g regR regS r k m i j)
+  unfolding keepOne lay
+  one-counted found out e h = one-kept (state found out) (state (found + 1) out) e (rw (lt-leb _ _ h))

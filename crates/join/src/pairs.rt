@@ -26,7 +26,7 @@ ghost use Rattle.join.specs.Boxes.{Holds};
 ghost use Rattle.join.specs.Marks.{Marks};
 ghost use Rattle.join.specs.Levels.{goodEntries, Sound, Judged, positionOf, onePair, entryPairs, runsPairs, markedPairs, pairsAt, aroundPairs};
 
-// R's number i and S's number j, where they are listed.
+// R's number i and S's number j, where they are listed. Without room they are counted alone, so that no step hangs on the distance.
 fn of_two(
     g: Grid,
     reg_r: &[u32],
@@ -42,7 +42,14 @@ fn of_two(
     requires { ⌜ (badSizes g ≡ false) × (badEntry g (now «reg_r») i ≡ false) × (badEntry g (now «reg_s») j ≡ false) × (found + length (onePair g (now «reg_r») (now «reg_s») r k m i j) ≤ mostPairs) ⌝ }
     ensures { λ c. ⌜ state c (now (out .exit)) ≡ kept (state found (now (out .entry))) (onePair g (now («reg_r» .entry)) (now («reg_s» .entry)) r k m i j) ⌝ }
 {
-    if listed(g, reg_r, reg_s, r, k, m, i, j) {
+    let near = listed(g, reg_r, reg_s, r, k, m, i, j);
+    if out.len() < 2 * (found as usize) + 2 {
+        if near {
+            return found + 1;
+        }
+        return found;
+    }
+    if near {
         return keep(i, j, found, out);
     }
     found
