@@ -4,13 +4,12 @@ use mathlib.Core.List.{List}
 use Prim.Native.Nat.{ℕ, _+_, _-_, _/_, _%_, _≤_, _<_}
 use native.Mathlib.Nat.{lt-irrefl, not-suc-le-zero}
 use native.Mathlib.Omega.{arith}
-use lib.ListN.{length, getD, set, length-set}
+use lib.ListN.{length, set, length-set}
 use lib.Seq.{getD-set-same, getD-set-other}
 use borrow.Author.Needs.{needs}
 use Rattle.laws.proofs.Tests.{by-le}
 use Rattle.grid.specs.Places.{position, isOn}
-use Rattle.rules.specs.Classes.{marked}
-use Rattle.join.specs.Marks.{Nine, MarksBelow, Marks}
+use Rattle.join.specs.Marks.{Nine, MarksBelow}
 use Rattle.join.proofs.masks.all_marks.Statement.{statement}
 use Rattle.join.proofs.masks.all_marks.Tie as tie
 

@@ -1,6 +1,6 @@
 -- `join::places::is_bare` meets its contract. Assumes nothing.
 use mathlib.Core.Path.{_≡_, ap₂}
-use Prim.Native.Nat.{ℕ, _+_, _*_}
+use Prim.Native.Nat.{_+_, _*_}
 use native.Mathlib.Omega.{arith}
 use lib.Dec.{eqb}
 use lib.ListN.{getD}
