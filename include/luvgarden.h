@@ -1,7 +1,8 @@
 /*
  * Luvgarden from C and C++: what lies under a yard, searched so that nothing is missed.
  *
- * The caller owns all memory. A call reads and writes only what it is lent, keeps nothing when it returns and has no memory of its own.
+ * The caller owns all memory. A call reads and writes only what it is lent, keeps nothing when it returns and has no memory of its own but
+ * some kilobytes of stack (a search the most: under ten).
  * Nothing needs to be checked before a call: every number is judged, and tables of any origin are answered or refused.
  *
  * Every function returns a number of luv_refusal, LUV_ACCEPTED for none, and writes *value on every call, refused ones too:
