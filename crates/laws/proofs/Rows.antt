@@ -22,11 +22,6 @@ module _ {A : Type 0} where
   each-map f h [] = refl
   each-map f h (x ∷ l) = ap (λ (t : List A). f (h x) ++ t) (each-map f h l)
 
-  -- two lists that are equal where a test passes
-  pub only-where : {l m : List A} (b : Bool) → (b ≡ true → l ≡ m) → only b l ≡ only b m
-  only-where true f = f refl
-  only-where false f = refl
-
   -- what stands alone, where a test passes
   pub each-alone : {B : Type 0} (f : B → List A) (b : Bool) (x : B) → each f (only b (x ∷ [])) ≡ only b (f x)
   each-alone f true x = append-nil (f x)
