@@ -1,4 +1,5 @@
 // The check: one pass over the starts and the counted entries.
+
 use rules::Grid;
 ghost use mathlib.Core.Path.{_≡_};
 ghost use Prim.Native.Nat.{ℕ, _+_, _≤_, _<_};
@@ -39,10 +40,11 @@ fn is_run(g: Grid, reg: &[u32], k: usize, run: &[u32]) -> bool
     let col = (k / 16 % n) as u32;
     let class = (k % 16) as u32;
     let all = tables::count(reg);
+    let len = numbers::count(run);
     let mut least = 0;
     let mut j = 0;
-    while j < run.len() {
-        let i = tables::wide(run[j]);
+    while j < len {
+        let i = tables::wide(numbers::get(run, j));
         if i < least {
             return false;
         }
@@ -63,18 +65,19 @@ fn runs_right(g: Grid, reg: &[u32], starts: &[u32], entries: &[u32]) -> bool
     requires { ⌜ (1 ≤ g .n) × (g .n ≤ 64) × (1 ≤ g .side) × (g .side ≤ 16384) × (length (now starts) ≡ runs g + 1) ⌝ }
     ensures { λ r. ⌜ r ≡ allPass (runRight g (now (reg .entry)) (now (starts .entry)) (now (entries .entry))) (upTo (runs g)) ⌝ }
 {
-    let last = starts.len() - 1;
+    let last = numbers::count(starts) - 1;
+    let len = numbers::count(entries);
     let mut k = 0;
     while k < last {
-        let from = tables::wide(starts[k]);
-        let to = tables::wide(starts[k + 1]);
+        let from = tables::wide(numbers::get(starts, k));
+        let to = tables::wide(numbers::get(starts, k + 1));
         if to < from {
             return false;
         }
-        if entries.len() < to {
+        if len < to {
             return false;
         }
-        if !is_run(g, reg, k, &entries[from..to]) {
+        if !is_run(g, reg, k, numbers::part(entries, from, to)) {
             return false;
         }
         k += 1;
@@ -89,11 +92,11 @@ pub(crate) fn is_built(g: Grid, reg: &[u32], starts: &[u32], entries: &[u32]) ->
     requires { ⌜ ((i : ℕ) → i < count (now reg) → Within (g .n) (tilesOf g (rectangle g (now reg) i)) (length (now starts))) ⌝ }
     ensures { λ r. ⌜ r ≡ isBuilt g (now (reg .entry)) (now (starts .entry)) (now (entries .entry)) ⌝ }
 {
-    let last = starts.len() - 1;
-    if starts[0] != 0 {
+    let last = numbers::count(starts) - 1;
+    if numbers::get(starts, 0) != 0 {
         return false;
     }
-    if tables::wide(starts[last]) != crate::sort::total(g, reg) {
+    if tables::wide(numbers::get(starts, last)) != crate::sort::total(g, reg) {
         return false;
     }
     runs_right(g, reg, starts, entries)

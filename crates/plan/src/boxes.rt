@@ -1,4 +1,5 @@
-// The square's box judged over tables in bytes: its rows, and the tiles of each.
+// In bytes, derived by tools/derive from crates/search/src/boxes.rt: edit that one.
+// The square's box judged: its rows, and the tiles of each.
 
 use crate::runs;
 use rules::Grid;

@@ -1,4 +1,6 @@
-// The check over bytes: as the number door has it (`compare.rt` of `index`), one pass over the starts and the counted entries.
+// In bytes, derived by tools/derive from crates/index/src/compare.rt: edit that one.
+// The check: one pass over the starts and the counted entries.
+
 use crate::register;
 use rules::Grid;
 ghost use mathlib.Core.Path.{_≡_};
@@ -78,7 +80,7 @@ fn runs_right(g: Grid, reg: &[u8], starts: &[u8], entries: &[u8]) -> bool
         if len < to {
             return false;
         }
-        if !is_run(g, reg, k, &entries[4 * from..4 * to]) {
+        if !is_run(g, reg, k, words::part(entries, from, to)) {
             return false;
         }
         k += 1;

@@ -6,7 +6,8 @@ mod compare; // compare.rt: the one pass of the check
 mod scan; // scan.rt: a search's entries, one after the other
 mod runs; // runs.rt: a tile of a search, and the runs of its allowed classes
 mod boxes; // boxes.rt: the rows and columns of a search's box
-mod radius; // radius.rt: a search judged, then written
+mod keeping; // keeping.rt: a search judged, then written, whatever keeps its first hits
+mod radius; // radius.rt: a search in bytes: the lengths, then the numbers
 
 use index::Judged;
 use rules::Answer;

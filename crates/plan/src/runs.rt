@@ -1,4 +1,5 @@
-// A tile judged over tables in bytes: its square, and the runs of its allowed classes, neighbouring runs as one part of the entries.
+// In bytes, derived by tools/derive from crates/search/src/runs.rt: edit that one.
+// A tile judged: its square, and the runs of its allowed classes, neighbouring runs as one part of the entries.
 
 use crate::scan;
 use rules::Grid;

@@ -36,9 +36,9 @@ fn hold(
     requires { ⌜ held .count + (held .past - held .begin) < 2 ^ 63 ⌝ }
     ensures { λ h. ⌜ Holds g (tables (now (reg .entry)) (now (starts .entry)) (now (entries .entry))) q r (k ∷ []) held (now (lent .entry)) h (now (lent .exit)) ⌝ }
 {
-    let a = tables::wide(starts[k]);
-    let e = tables::wide(starts[k + 1]);
-    if tables::bad_ends(entries.len(), a, e) {
+    let a = tables::wide(numbers::get(starts, k));
+    let e = tables::wide(numbers::get(starts, k + 1));
+    if tables::bad_ends(numbers::count(entries), a, e) {
         return Held {
             begin: 0,
             past: 0,

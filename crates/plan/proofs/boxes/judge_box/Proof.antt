@@ -1,3 +1,4 @@
+-- In bytes, derived by tools/derive from crates/search/proofs/boxes/judge_box/Proof.antt: edit that one.
 -- `plan::boxes::judge_box` meets its contract: what is left of the box, row by row. Assumes nothing.
 use borrow.Author.Needs.{needs}
 use mathlib.Core.Path.{_≡_, refl, _∙_}

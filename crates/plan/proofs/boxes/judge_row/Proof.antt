@@ -1,3 +1,4 @@
+-- In bytes, derived by tools/derive from crates/search/proofs/boxes/judge_row/Proof.antt: edit that one.
 -- `plan::boxes::judge_row` meets its contract: what is left of the row, column by column. Assumes nothing.
 use borrow.Author.Needs.{needs}
 use mathlib.Core.Path.{_≡_, refl, _∙_}

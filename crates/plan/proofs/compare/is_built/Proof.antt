@@ -1,3 +1,4 @@
+-- In bytes, derived by tools/derive from crates/index/proofs/compare/is_built/Proof.antt: edit that one.
 -- `plan::compare::is_built` meets its contract: what is found right is what the build leaves. Assumes nothing.
 use mathlib.Core.Path.{_≡_, ap, _∙_}
 use Prim.Native.Nat.{ℕ, _-_}

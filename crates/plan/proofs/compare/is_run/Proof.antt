@@ -1,3 +1,4 @@
+-- In bytes, derived by tools/derive from crates/index/proofs/compare/is_run/Proof.antt: edit that one.
 -- `plan::compare::is_run` meets its contract: one pass that stops at the first entry that is not right. Assumes nothing.
 use borrow.Author.Needs.{needs}
 use mathlib.Core.Path.{_≡_, sym, ap, _∙_}
@@ -6,10 +7,10 @@ use mathlib.Core.List.{List}
 use Prim.Native.Nat.{ℕ, _-_, _/_, _%_, _<_}
 use lib.ListN.{length, getD}
 use borrow.Author.Tests.{not-true, not-false, le-ltb, lt-ltb}
+use Rattle.rules.specs.Bytes.{words}
 use Rattle.laws.specs.Rising.{below}
 use Rattle.laws.proofs.Scans.{Rises, rises-all, falls, fails, rises-on, rises-out}
 use Rattle.laws.proofs.Tests.{both-true}
-use Rattle.rules.specs.Bytes.{words}
 use Rattle.rules.specs.Register.{count}
 use Rattle.rules.specs.Tables.{stands}
 use Rattle.rules.specs.declared.Grid.{Grid}
@@ -21,10 +22,10 @@ use Rattle.plan.proofs.compare.is_run.Statement.{statement}
 use Rattle.plan.proofs.compare.is_run.Tie as tie
 
 abbrev passes : Grid → List ℕ → ℕ → ℕ → Bool
-passes g reg k = below (count (words reg)) (stands g (words reg) k)
+passes g reg k = below (count reg) (stands g reg k)
 
 abbrev Inv-loop : tie.InvT-loop
-Inv-loop g reg k run n row col class all len least₀ j₀ least j = Rises (passes g reg k) (words run) least j
+Inv-loop g reg k run n row col class all len least₀ j₀ least j = Rises (passes g (words reg) k) (words run) least j
 
 abbrev μ-loop : tie.MeasureT-loop
 μ-loop g reg k run n row col class all len least₀ j₀ least j = length (words run) - j
@@ -82,12 +83,12 @@ wide-requires-2 c κs = search needs
 
 returns : tie.Need-returns Inv-loop μ-loop
 unfolding isRun
-returns c = falls (passes (c .before .before .before .before .before .before .before .before .before .before .args .g) (c .before .before .before .before .before .before .before .before .before .before .args .reg .now) (c .before .before .before .before .before .before .before .before .before .before .args .k)) (words (c .before .before .before .before .before .before .before .before .before .before .args .run .now)) _ _ (c .before .before .before .before .loop .inv) (c .before .wide2 .result) (more (c .before .before .before)) (entry (c .before)) (c .if1 .taken)
+returns c = falls (passes (c .before .before .before .before .before .before .before .before .before .before .args .g) (words (c .before .before .before .before .before .before .before .before .before .before .args .reg .now)) (c .before .before .before .before .before .before .before .before .before .before .args .k)) (words (c .before .before .before .before .before .before .before .before .before .before .args .run .now)) _ _ (c .before .before .before .before .loop .inv) (c .before .wide2 .result) (more (c .before .before .before)) (entry (c .before)) (c .if1 .taken)
 
 returns-2 : tie.Need-returns-2 Inv-loop μ-loop
 unfolding isRun
 returns-2 c =
-    fails (passes (c .before .before .before .before .before .before .before .before .before .before .before .args .g) (c .before .before .before .before .before .before .before .before .before .before .before .args .reg .now) (c .before .before .before .before .before .before .before .before .before .before .before .args .k)) (words (c .before .before .before .before .before .before .before .before .before .before .before .args .run .now)) _ _ (c .before .before .before .before .before .loop .inv) (c .before .before .wide2 .result) (more (c .before .before .before .before)) (entry (c .before .before))
+    fails (passes (c .before .before .before .before .before .before .before .before .before .before .before .args .g) (words (c .before .before .before .before .before .before .before .before .before .before .before .args .reg .now)) (c .before .before .before .before .before .before .before .before .before .before .before .args .k)) (words (c .before .before .before .before .before .before .before .before .before .before .before .args .run .now)) _ _ (c .before .before .before .before .before .loop .inv) (c .before .before .wide2 .result) (more (c .before .before .before .before)) (entry (c .before .before))
     (rw (le-ltb (c .before .before .wide2 .result) (count (words (c .before .before .before .before .before .before .before .before .before .before .before .args .reg .now))) (omega (arith, c .if2 .taken, c .before .before .before .before .before .before .before .count .ensures))))
 
 stands-requires : tie.Need-stands-requires Inv-loop μ-loop
@@ -96,7 +97,7 @@ stands-requires c κs = ((c .before .before .before .before .before .before .bef
 returns-3 : tie.Need-returns-3 Inv-loop μ-loop
 unfolding isRun
 returns-3 c =
-    fails (passes (c .before .before .before .before .before .before .before .before .before .before .before .before .before .args .g) (c .before .before .before .before .before .before .before .before .before .before .before .before .before .args .reg .now) (c .before .before .before .before .before .before .before .before .before .before .before .before .before .args .k)) (words (c .before .before .before .before .before .before .before .before .before .before .before .before .before .args .run .now)) _ _ (c .before .before .before .before .before .before .before .loop .inv) (c .before .before .before .before .wide2 .result) (more (c .before .before .before .before .before .before)) (entry (c .before .before .before .before))
+    fails (passes (c .before .before .before .before .before .before .before .before .before .before .before .before .before .args .g) (words (c .before .before .before .before .before .before .before .before .before .before .before .before .before .args .reg .now)) (c .before .before .before .before .before .before .before .before .before .before .before .before .before .args .k)) (words (c .before .before .before .before .before .before .before .before .before .before .before .before .before .args .run .now)) _ _ (c .before .before .before .before .before .before .before .loop .inv) (c .before .before .before .before .wide2 .result) (more (c .before .before .before .before .before .before)) (entry (c .before .before .before .before))
     (rw (lt-ltb (c .before .before .before .before .wide2 .result) (count (words (c .before .before .before .before .before .before .before .before .before .before .before .before .before .args .reg .now))) (omega (arith, c .before .before .if2 .left, c .before .before .before .before .before .before .before .before .before .count .ensures))) (sym (there (c .before)) ∙ not-true _ (c .if3 .taken)))
 
 add-least : tie.Need-add-least Inv-loop μ-loop
@@ -110,12 +111,12 @@ loop-less c = omega (arith, more (c .before .before .before .before .before .bef
 
 loop-again : tie.Need-loop-again Inv-loop μ-loop
 loop-again c =
-    rises-on (passes (c .before .before .before .before .before .before .before .before .before .before .before .before .before .args .g) (c .before .before .before .before .before .before .before .before .before .before .before .before .before .args .reg .now) (c .before .before .before .before .before .before .before .before .before .before .before .before .before .args .k)) (words (c .before .before .before .before .before .before .before .before .before .before .before .before .before .args .run .now)) _ _ (c .before .before .before .before .before .before .before .loop .inv) (c .before .before .before .before .wide2 .result) (more (c .before .before .before .before .before .before)) (entry (c .before .before .before .before)) (c .before .before .before .if1 .left)
+    rises-on (passes (c .before .before .before .before .before .before .before .before .before .before .before .before .before .args .g) (words (c .before .before .before .before .before .before .before .before .before .before .before .before .before .args .reg .now)) (c .before .before .before .before .before .before .before .before .before .before .before .before .before .args .k)) (words (c .before .before .before .before .before .before .before .before .before .before .before .before .before .args .run .now)) _ _ (c .before .before .before .before .before .before .before .loop .inv) (c .before .before .before .before .wide2 .result) (more (c .before .before .before .before .before .before)) (entry (c .before .before .before .before)) (c .before .before .before .if1 .left)
     (both-true (lt-ltb (c .before .before .before .before .wide2 .result) (count (words (c .before .before .before .before .before .before .before .before .before .before .before .before .before .args .reg .now))) (omega (arith, c .before .before .if2 .left, c .before .before .before .before .before .before .before .before .before .count .ensures))) (sym (there (c .before)) ∙ not-false _ (c .if3 .left)))
 
 returns-4 : tie.Need-returns-4 Inv-loop μ-loop
 unfolding isRun
-returns-4 c = rises-out (passes (c .before .before .before .before .before .before .before .args .g) (c .before .before .before .before .before .before .before .args .reg .now) (c .before .before .before .before .before .before .before .args .k)) (words (c .before .before .before .before .before .before .before .args .run .now)) _ _ (c .before .loop .inv) (omega (arith, c .loop-test .left, c .before .before .count2 .ensures))
+returns-4 c = rises-out (passes (c .before .before .before .before .before .before .before .args .g) (words (c .before .before .before .before .before .before .before .args .reg .now)) (c .before .before .before .before .before .before .before .args .k)) (words (c .before .before .before .before .before .before .before .args .run .now)) _ _ (c .before .loop .inv) (omega (arith, c .loop-test .left, c .before .before .count2 .ensures))
 
 pub is-run-spec : {M : Type 1} → statement M
 is-run-spec =

@@ -1,16 +1,16 @@
+-- In bytes, derived by tools/derive from crates/index/proofs/compare/runs_right/Proof.antt: edit that one.
 -- `plan::compare::runs_right` meets its contract: one pass that stops at the first run that is not right. Assumes nothing.
 use borrow.Author.Needs.{needs}
 use mathlib.Core.Path.{_≡_, sym, ap, _∙_}
 use Prim.Native.Nat.{_+_, _-_, _*_, _≤_, _<_, _^_}
 use lib.ListN.{length, getD}
 use borrow.Author.Tests.{not-true, not-false}
-use Rattle.laws.proofs.Scans.{Passes, passes-all, passes-not, passes-on, passes-out}
 use Rattle.rules.specs.Bytes.{words}
+use Rattle.laws.proofs.Scans.{Passes, passes-all, passes-not, passes-on, passes-out}
 use Rattle.rules.specs.Tables.{runs}
 use Rattle.words.proofs.Laws.{word-count}
 use Rattle.index.specs.Check.{isRun, runRight}
 use Rattle.index.proofs.Right.{wrong-falling, wrong-past, run-decides}
-use Rattle.words.proofs.Parts.{words-part}
 use native.Mathlib.Omega.{arith}
 use Rattle.plan.proofs.compare.runs_right.Statement.{statement}
 use Rattle.plan.proofs.compare.runs_right.Tie as tie
@@ -31,16 +31,10 @@ begins c = c .wide .ensures ∙ c .before .get .ensures
 ends : (c : tie.After-wide2 Inv-loop μ-loop) → c .wide2 .result ≡ getD (words (c .before .before .before .before .before .before .before .before .before .before .before .args .starts .now)) (c .before .before .before .before .before .loop .k + 1) 0
 ends c = c .wide2 .ensures ∙ c .before .get2 .ensures
 
--- the run lies inside the entries, and the places of its bytes fit
-inside : (c : tie.Else2 Inv-loop μ-loop) → (c .before .before .before .before .wide .result ≤ c .before .before .wide2 .result) × (4 * c .before .before .wide2 .result ≤ length (c .before .before .before .before .before .before .before .before .before .before .before .before .before .args .entries .now)) × (4 * c .before .before .wide2 .result < 2 ^ 64)
-inside c =
-    let n = word-count (c .before .before .before .before .before .before .before .before .before .before .before .before .before .args .entries .now) in
-    (c .before .if1 .left, omega (arith, c .if2 .left, c .before .before .before .before .before .before .before .before .count2 .ensures), omega (arith, c .if2 .left, c .before .before .before .before .before .before .before .before .count2 .ensures, c .before .before .before .before .before .before .before .before .before .before .before .before .before .good))
-
 decides : (c : tie.After-is-run Inv-loop μ-loop) → c .is-run .result ≡ runRight (c .before .before .before .before .before .before .before .before .before .before .before .before .before .before .before .args .g) (words (c .before .before .before .before .before .before .before .before .before .before .before .before .before .before .before .args .reg .now)) (words (c .before .before .before .before .before .before .before .before .before .before .before .before .before .before .before .args .starts .now)) (words (c .before .before .before .before .before .before .before .before .before .before .before .before .before .before .before .args .entries .now)) (c .before .before .before .before .before .before .before .before .before .loop .k)
 decides c =
     c .is-run .ensures
-    ∙ ap (isRun (c .before .before .before .before .before .before .before .before .before .before .before .before .before .before .before .args .g) (words (c .before .before .before .before .before .before .before .before .before .before .before .before .before .before .before .args .reg .now)) (c .before .before .before .before .before .before .before .before .before .loop .k)) (words-part (c .before .before .before .before .before .before .before .before .before .before .before .before .before .before .before .args .entries .now) (c .before .before .before .before .before .before .wide .result) (c .before .before .before .before .wide2 .result))
+    ∙ ap (isRun (c .before .before .before .before .before .before .before .before .before .before .before .before .before .before .before .args .g) (words (c .before .before .before .before .before .before .before .before .before .before .before .before .before .before .before .args .reg .now)) (c .before .before .before .before .before .before .before .before .before .loop .k)) (c .before .part .ensures)
     ∙ sym (run-decides (c .before .before .before .before .before .before .before .before .before .before .before .before .before .before .before .args .g) (words (c .before .before .before .before .before .before .before .before .before .before .before .before .before .before .before .args .reg .now)) (words (c .before .before .before .before .before .before .before .before .before .before .before .before .before .before .before .args .starts .now)) (words (c .before .before .before .before .before .before .before .before .before .before .before .before .before .before .before .args .entries .now)) (c .before .before .before .before .before .before .before .before .before .loop .k) (c .before .before .before .before .before .before .wide .result) (c .before .before .before .before .wide2 .result) (begins (c .before .before .before .before .before .before)) (ends (c .before .before .before .before)) (c .before .before .before .if1 .left) (omega (arith, c .before .before .if2 .left, c .before .before .before .before .before .before .before .before .before .before .count2 .ensures)))
 
 count-requires : tie.Need-count-requires Inv-loop μ-loop
@@ -80,20 +74,8 @@ returns-2 c =
     passes-not _ _ _ (c .before .before .before .before .before .before .before .loop .inv) (more (c .before .before .before .before .before .before))
     (wrong-past (c .before .before .before .before .before .before .before .before .before .before .before .before .before .args .g) (words (c .before .before .before .before .before .before .before .before .before .before .before .before .before .args .reg .now)) (words (c .before .before .before .before .before .before .before .before .before .before .before .before .before .args .starts .now)) (words (c .before .before .before .before .before .before .before .before .before .before .before .before .before .args .entries .now)) (c .before .before .before .before .before .before .before .loop .k) (c .before .before .before .before .wide .result) (c .before .before .wide2 .result) (begins (c .before .before .before .before)) (ends (c .before .before)) (omega (arith, c .if2 .taken, c .before .before .before .before .before .before .before .before .count2 .ensures)))
 
-mul-is-run : tie.Need-mul-is-run Inv-loop μ-loop
-mul-is-run c = omega (arith, inside (c))
-
-mul-is-run-2 : tie.Need-mul-is-run-2 Inv-loop μ-loop
-mul-is-run-2 c = omega (arith, inside (c))
-
-sub-is-run : tie.Need-sub-is-run Inv-loop μ-loop
-sub-is-run c = omega (arith, inside (c))
-
-part-is-run-start : tie.Need-part-is-run-start Inv-loop μ-loop
-part-is-run-start c = omega (arith, inside (c))
-
-part-is-run-end : tie.Need-part-is-run-end Inv-loop μ-loop
-part-is-run-end c = omega (arith, inside (c))
+part-requires : tie.Need-part-requires Inv-loop μ-loop
+part-requires c κs = (c .before .if1 .left, omega (arith, c .if2 .left, c .before .before .before .before .before .before .before .before .count2 .ensures))
 
 is-run-requires : tie.Need-is-run-requires Inv-loop μ-loop
 is-run-requires c κs = (c .before .before .before .before .before .before .before .before .before .before .before .before .before .before .pre .0, c .before .before .before .before .before .before .before .before .before .before .before .before .before .before .pre .1, c .before .before .before .before .before .before .before .before .before .before .before .before .before .before .pre .2, c .before .before .before .before .before .before .before .before .before .before .before .before .before .before .pre .3, more (c .before .before .before .before .before .before .before))
@@ -130,11 +112,7 @@ runs-right-spec =
     wide-requires-2
     returns
     returns-2
-    mul-is-run
-    mul-is-run-2
-    sub-is-run
-    part-is-run-start
-    part-is-run-end
+    part-requires
     is-run-requires
     returns-3
     add-k

@@ -1,3 +1,4 @@
+-- In bytes, derived by tools/derive from crates/index/proofs/compare/stands/Proof.antt: edit that one.
 -- `plan::compare::stands` meets its contract: the tile is met in x and in y, and the class is the run's. Assumes nothing.
 use mathlib.Core.Path.{_≡_, sym, ap, ap₂, _∙_}
 use Prim.Native.Nat.{ℕ}

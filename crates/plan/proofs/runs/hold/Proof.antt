@@ -1,3 +1,4 @@
+-- In bytes, derived by tools/derive from crates/search/proofs/runs/hold/Proof.antt: edit that one.
 -- `plan::runs::hold` meets its contract: damaged ends, a run that joins, a part that is read. Assumes nothing.
 use mathlib.Core.Path.{_≡_, sym, ap, _∙_}
 use Prim.Native.Nat.{ℕ}
@@ -30,7 +31,7 @@ wide-requires : tie.Need-wide-requires
 wide-requires c κs = search needs
 
 add-get : tie.Need-add-get
-add-get c = omega (arith, word-count (c .before .before .before .before .before .before .args .starts .now), c .before .before .before .before .before .before .good .1 .1 .0, c .before .before .before .before .before .before .pre)
+add-get c = let s = c .before .before .before .before .before .before in omega (arith, word-count (s .args .starts .now), s .good .1 .1 .0, s .pre)
 
 get-requires-2 : tie.Need-get-requires-2
 get-requires-2 c κs = search needs

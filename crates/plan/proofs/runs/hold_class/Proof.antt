@@ -1,3 +1,4 @@
+-- In bytes, derived by tools/derive from crates/search/proofs/runs/hold_class/Proof.antt: edit that one.
 -- `plan::runs::hold_class` meets its contract: the mask says whether the class is allowed. Assumes nothing.
 use mathlib.Core.Path.{sym, _∙_}
 use Prim.Native.Nat.{_+_, _*_}

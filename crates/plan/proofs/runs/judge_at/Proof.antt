@@ -1,3 +1,4 @@
+-- In bytes, derived by tools/derive from crates/search/proofs/runs/judge_at/Proof.antt: edit that one.
 -- `plan::runs::judge_at` meets its contract: the tile's square, then its allowed classes. Assumes nothing.
 use borrow.Author.Tests.{not-true, not-false}
 use Rattle.rules.specs.Bytes.{words}

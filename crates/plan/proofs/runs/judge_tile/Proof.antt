@@ -1,3 +1,4 @@
+-- In bytes, derived by tools/derive from crates/search/proofs/runs/judge_tile/Proof.antt: edit that one.
 -- `plan::runs::judge_tile` meets its contract: what is held back and what is left of the tile, class by class. Assumes nothing.
 use mathlib.Core.Path.{_≡_, refl, _∙_}
 use Prim.Native.Nat.{_-_}

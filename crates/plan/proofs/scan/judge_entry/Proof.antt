@@ -1,3 +1,4 @@
+-- In bytes, derived by tools/derive from crates/search/proofs/scan/judge_entry/Proof.antt: edit that one.
 -- `plan::scan::judge_entry` meets its contract: each test of the entry, and its distance, decide its outcome. Assumes nothing.
 use mathlib.Core.Path.{_≡_, refl, _∙_}
 use borrow.Author.Tests.{not-true, not-false}

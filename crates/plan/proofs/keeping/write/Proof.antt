@@ -1,16 +1,17 @@
--- `plan::radius::write` meets its contract: the hits that were kept, or all of them read again. Assumes nothing.
+-- In bytes, derived by tools/derive from crates/search/proofs/keeping/write/Proof.antt: edit that one.
+-- `plan::keeping::write` meets its contract: the hits that were kept, or all of them read again. Assumes nothing.
 use mathlib.Core.Path.{ap, _∙_}
 use mathlib.Core.List.{List}
 use Prim.Native.Nat.{ℕ}
-use Rattle.laws.specs.Lists.{over}
 use Rattle.rules.specs.Bytes.{words}
+use Rattle.laws.specs.Lists.{over}
 use Rattle.rules.specs.Tables.{tables}
 use Rattle.search.specs.Judged.{at}
 use Rattle.search.proofs.Verdicts.{passed, read-again}
 use native.Mathlib.Omega.{arith}
 use borrow.Author.Needs.{needs}
-use Rattle.plan.proofs.radius.write.Statement.{statement}
-use Rattle.plan.proofs.radius.write.Tie as tie
+use Rattle.plan.proofs.keeping.write.Statement.{statement}
+use Rattle.plan.proofs.keeping.write.Tie as tie
 
 count-requires : tie.Need-count-requires
 count-requires c κs = search needs

@@ -1,4 +1,5 @@
--- `plan::radius::search_keeping` meets its contract: the number door's promise, at the bytes' numbers, whatever keeps the first hits. Assumes nothing.
+-- In bytes, derived by tools/derive from crates/search/proofs/keeping/search_keeping/Proof.antt: edit that one.
+-- `plan::keeping::search_keeping` meets its contract: the number door's promise, at the bytes' numbers, whatever keeps the first hits. Assumes nothing.
 use mathlib.Core.Path.{sym, _∙_}
 use Rattle.rules.specs.Bytes.{words}
 use Rattle.rules.specs.Tables.{tables}
@@ -7,8 +8,8 @@ use Rattle.search.proofs.Verdicts.{promise-refused, promise-room, promise-done,
 use Rattle.words.proofs.Laws.{same-count}
 use native.Mathlib.Omega.{arith}
 use borrow.Author.Needs.{needs}
-use Rattle.plan.proofs.radius.search_keeping.Statement.{statement}
-use Rattle.plan.proofs.radius.search_keeping.Tie as tie
+use Rattle.plan.proofs.keeping.search_keeping.Statement.{statement}
+use Rattle.plan.proofs.keeping.search_keeping.Tie as tie
 
 judge-requires : tie.Need-judge-requires
 judge-requires c κs = search needs

@@ -1,4 +1,4 @@
--- `search::judge` meets its contract: each refusal where its test passes, else what was counted and kept. Assumes nothing.
+-- `search::keeping::judge` meets its contract: each refusal where its test passes, else what was counted and kept. Assumes nothing.
 use mathlib.Core.Path.{_≡_, sym, _∙_}
 use mathlib.Core.Bool.{false}
 use Rattle.rules.specs.Sizes.{badSizes, badPoint}
@@ -6,8 +6,8 @@ use Rattle.rules.specs.Tables.{tables, badLengths}
 use Rattle.search.specs.Judged.{at}
 use Rattle.search.proofs.Verdicts.{lengths-are, ready, refused-sizes, refused-lengths, refused-place, refused-radius, refused-damage, accepted}
 use borrow.Author.Needs.{needs}
-use Rattle.search.proofs.judge.Statement.{statement}
-use Rattle.search.proofs.judge.Tie as tie
+use Rattle.search.proofs.keeping.judge.Statement.{statement}
+use Rattle.search.proofs.keeping.judge.Tie as tie
 
 sizes-good : (c : tie.Else1) → badSizes (c .before .before .before .before .before .before .args .g) ≡ false
 sizes-good c = sym (c .before .bad-sizes .ensures) ∙ c .if1 .left

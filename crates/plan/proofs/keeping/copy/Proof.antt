@@ -1,12 +1,13 @@
--- `plan::radius::copy` meets its contract: number by number from the front. Assumes nothing.
+-- In bytes, derived by tools/derive from crates/search/proofs/keeping/copy/Proof.antt: edit that one.
+-- `plan::keeping::copy` meets its contract: number by number from the front. Assumes nothing.
 use mathlib.Core.Path.{_≡_, refl, ap, _∙_}
 use Prim.Native.Nat.{ℕ, _-_}
 use lib.ListN.{length, set}
 use Rattle.rules.specs.Bytes.{words}
 use Rattle.search.proofs.Copies.{Copied, copied-none, copied-one, copied-all}
 use native.Mathlib.Omega.{arith}
-use Rattle.plan.proofs.radius.copy.Statement.{statement}
-use Rattle.plan.proofs.radius.copy.Tie as tie
+use Rattle.plan.proofs.keeping.copy.Statement.{statement}
+use Rattle.plan.proofs.keeping.copy.Tie as tie
 
 abbrev Inv-loop : tie.InvT-loop
 Inv-loop list count out₀ i₀ out i = Copied (words list) (words out₀) count (words out) i × (length out ≡ length out₀)
