@@ -3,6 +3,7 @@
 use rules::Answer;
 use rules::Grid;
 use rules::Point;
+use tables::register;
 ghost use mathlib.Core.Path.{_≡_};
 ghost use lib.ListN.{take};
 ghost use Rattle.laws.specs.Lists.{each};
@@ -22,7 +23,7 @@ fn put_one(g: Grid, reg: &[u32], x: u32, y: u32, hit: u32, out: &mut [u8], at: u
     requires { ⌜ Named g (now reg) (asked x y) hit ⌝ }
     ensures { λ r. ⌜ (r, now (out .exit)) ≡ puts (hitOf g (now (reg .entry)) (asked x y) hit) (at, now (out .entry)) ⌝ }
 {
-    let a = tables::footprint(g, reg, tables::wide(hit));
+    let a = register::footprint(g, reg, tables::wide(hit));
     let square = grid::square(grid::near::point(Point { x, y }), a);
     sheet::put_hit(out, at, hit, square)
 }

@@ -1,6 +1,7 @@
 // The check: one pass over the starts and the counted entries.
 
 use rules::Grid;
+use tables::register;
 ghost use mathlib.Core.Path.{_≡_};
 ghost use Prim.Native.Nat.{ℕ, _+_, _≤_, _<_};
 ghost use lib.ListN.{length};
@@ -17,7 +18,7 @@ fn stands(g: Grid, reg: &[u32], row: u32, col: u32, class: u32, i: usize) -> boo
     requires { ⌜ i < count (now reg) ⌝ }
     ensures { λ r. ⌜ r ≡ standsAt g (now (reg .entry)) row col class i ⌝ }
 {
-    let a = tables::footprint(g, reg, i);
+    let a = register::footprint(g, reg, i);
     let x = a.x;
     let y = a.y;
     let side = g.side;
@@ -39,7 +40,7 @@ fn is_run(g: Grid, reg: &[u32], k: usize, run: &[u32]) -> bool
     let row = (k / 16 / n) as u32;
     let col = (k / 16 % n) as u32;
     let class = (k % 16) as u32;
-    let all = tables::count(reg);
+    let all = register::count(reg);
     let len = numbers::count(run);
     let mut least = 0;
     let mut j = 0;

@@ -2,6 +2,7 @@
 use rules::Grid;
 use rules::Rect;
 use rules::Span;
+use tables::register;
 ghost use mathlib.Core.Path.{_≡_};
 ghost use mathlib.Core.Bool.{true, false};
 ghost use Prim.Native.Nat.{_<_, min, max};
@@ -52,10 +53,10 @@ pub(crate) fn box_of(g: Grid, reg: &[u32], run: &[u32]) -> Rect
     requires { ⌜ (badSizes g ≡ false) × (goodEntries g (now reg) (now run) ≡ true) × (0 < length (now run)) ⌝ }
     ensures { λ b. ⌜ (b ≡ boxed g (now (reg .entry)) (rectangle g (now (reg .entry)) (getD (now (run .entry)) 0 0)) (now (run .entry))) × Holds g (now (reg .entry)) b (now (run .entry)) ⌝ }
 {
-    let mut b = tables::footprint(g, reg, run[0] as usize);
+    let mut b = register::footprint(g, reg, run[0] as usize);
     let mut at = 0;
     while at < run.len() {
-        let next = tables::footprint(g, reg, run[at] as usize);
+        let next = register::footprint(g, reg, run[at] as usize);
         b = around(b, next);
         at += 1;
     }

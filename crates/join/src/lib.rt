@@ -11,6 +11,7 @@ mod pairs; // pairs.rt: the loops over tiles, classes and numbers
 use rules::Answer;
 use rules::Grid;
 use rules::Refusal;
+use tables::register;
 ghost use mathlib.Core.Path.{_≡_};
 ghost use Rattle.rules.specs.Tables.{tables};
 ghost use Rattle.rules.specs.Refusals.{paperAnswer, fit};
@@ -89,10 +90,10 @@ pub fn join(
     if grid::bad_sizes(g) {
         return Answer::Refused(Refusal::Sizes);
     }
-    if tables::bad_lengths(g, reg_r, starts_r) {
+    if register::bad_lengths(g, reg_r, starts_r) {
         return Answer::Refused(Refusal::Lengths);
     }
-    if tables::bad_lengths(g, reg_s, starts_s) {
+    if register::bad_lengths(g, reg_s, starts_s) {
         return Answer::Refused(Refusal::Lengths);
     }
     if g.side < r {

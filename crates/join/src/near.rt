@@ -1,6 +1,7 @@
 // Whether a pair of footprints, met in two joined runs, is listed, and when this is known without looking at it.
 use rules::Grid;
 use rules::Rect;
+use tables::register;
 ghost use mathlib.Core.Path.{_≡_};
 ghost use mathlib.Core.Bool.{false};
 ghost use Rattle.rules.specs.Sizes.{badSizes};
@@ -23,8 +24,8 @@ pub(crate) fn listed(
     requires { ⌜ (badSizes g ≡ false) × (badEntry g (now «reg_r») i ≡ false) × (badEntry g (now «reg_s») j ≡ false) ⌝ }
     ensures { λ c. ⌜ c ≡ lists g (now («reg_r» .entry)) (now («reg_s» .entry)) r k m (i, j) ⌝ }
 {
-    let a = tables::footprint(g, reg_r, i as usize);
-    let b = tables::footprint(g, reg_s, j as usize);
+    let a = register::footprint(g, reg_r, i as usize);
+    let b = register::footprint(g, reg_s, j as usize);
     grid::near::within(r, a, b)
 }
 

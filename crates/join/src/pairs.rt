@@ -13,6 +13,7 @@ use super::places::run_part;
 use super::places::tile_at;
 use rules::Grid;
 use rules::Rect;
+use tables::register;
 ghost use mathlib.Core.Path.{_≡_};
 ghost use mathlib.Core.Bool.{true, false};
 ghost use Prim.Native.Nat.{_+_, _≤_, _<_};
@@ -72,7 +73,7 @@ fn of_entry(
     requires { ⌜ (badSizes g ≡ false) × (badEntry g (now «reg_r») i ≡ false) × (goodEntries g (now «reg_s») (now «run_s») ≡ true) × Holds g (now «reg_s») «box_s» (now «run_s») × (found + length (entryPairs g (now «reg_r») (now «reg_s») r k m i (now «run_s»)) ≤ mostPairs) ⌝ }
     ensures { λ c. ⌜ state c (now (out .exit)) ≡ kept (state found (now (out .entry))) (entryPairs g (now («reg_r» .entry)) (now («reg_s» .entry)) r k m i (now («run_s» .entry))) ⌝ }
 {
-    let a = tables::footprint(g, reg_r, i as usize);
+    let a = register::footprint(g, reg_r, i as usize);
     if apart(g, r, k, m, a, box_s) {
         return found;
     }

@@ -1,15 +1,18 @@
 // The plan viewer's door: build, check and search from C, over tables in little-endian bytes, read and written where they are lent.
 
-mod register; // register.rt: the register and the starts, read and judged
-mod sort; // sort.rt: the counting sort of the build
-mod compare; // compare.rt: the one pass of the check
-mod scan; // scan.rt: a search's entries, one after the other
-mod runs; // runs.rt: a tile of a search, and the runs of its allowed classes
-mod boxes; // boxes.rt: the rows and columns of a search's box
-mod keeping; // keeping.rt: a search judged, then written, whatever keeps its first hits
+// Derived from the number form (tools/derive), by the same names:
+mod register; // of tables: the register's footprints, and the lengths
+mod sort; // of index: the counting sort of the build
+mod compare; // of index: the one pass of the check
+mod whole; // of index: a build and a check, judged and then done
+mod scan; // of search: entries, one after the other
+mod runs; // of search: a tile, and the runs of its allowed classes
+mod boxes; // of search: the rows and columns of the square's box
+mod keeping; // of search: a search judged, then written, whatever keeps its first hits
+
+// Written here:
 mod radius; // radius.rt: a search in bytes: the lengths, then the numbers
 
-use index::Judged;
 use rules::Answer;
 use rules::Checked;
 use rules::Grid;
@@ -17,64 +20,11 @@ use rules::Refusal;
 ghost use mathlib.Core.Path.{_≡_};
 ghost use mathlib.Core.List.{[], _∷_};
 ghost use Rattle.laws.specs.Lists.{any};
-ghost use Rattle.rules.specs.Refusals.{pass, paperAnswer, paperChecked};
-ghost use Rattle.rules.specs.Build.{registerVerdict, builds, checks};
-ghost use Rattle.rules.specs.Bytes.{words, offFour, buildsBytes, checksBytes, searchesBytes};
-ghost use Rattle.index.specs.Judged.{verdict};
+ghost use Rattle.rules.specs.Refusals.{paperAnswer, paperChecked};
+ghost use Rattle.rules.specs.Bytes.{offFour, buildsBytes, checksBytes, searchesBytes};
 ghost use Rattle.outward.specs.Outward.{told as toldIs, outward, outward₁, outward₂};
 
 // ---- build and check
-
-// Refusals 1, 2 and 3 of the numbers, or none of them.
-fn judge(g: Grid, reg: &[u8], starts: &[u8]) -> Judged
-    ensures { λ r. ⌜ verdict r ≡ registerVerdict g (words (now (reg .entry))) (words (now (starts .entry))) pass ⌝ }
-{
-    if grid::bad_sizes(g) {
-        return Judged::Refused(Refusal::Sizes);
-    }
-    if register::bad_lengths(g, reg, starts) {
-        return Judged::Refused(Refusal::Lengths);
-    }
-    let bad = register::first_bad(g, reg);
-    if bad < register::count(reg) {
-        return Judged::Refused(Refusal::Footprint(bad as u32));
-    }
-    Judged::Passed
-}
-
-// Builds the index of the numbers: leaves the starts, and the entries up to the count that it answers.
-fn build_numbers(g: Grid, reg: &[u8], starts: &mut [u8], entries: &mut [u8]) -> Answer
-    ensures { λ r. ⌜ (paperAnswer r, words (now (starts .exit)), words (now (entries .exit))) ≡ builds g (words (now (reg .entry))) (words (now (starts .entry))) (words (now (entries .entry))) ⌝ }
-{
-    match judge(g, reg, starts) {
-        Judged::Refused(why) => {
-            return Answer::Refused(why);
-        }
-        Judged::Passed => {}
-    }
-    let need = sort::total(g, reg);
-    if words::count(entries) < need {
-        return Answer::Refused(Refusal::Room(need as u64));
-    }
-    sort::fill(g, reg, starts, entries);
-    Answer::Done(need as u64)
-}
-
-// Whether the numbers of starts and of the counted entries are what the build leaves.
-fn check_numbers(g: Grid, reg: &[u8], starts: &[u8], entries: &[u8]) -> Checked
-    ensures { λ r. ⌜ paperChecked r ≡ checks g (words (now (reg .entry))) (words (now (starts .entry))) (words (now (entries .entry))) ⌝ }
-{
-    match judge(g, reg, starts) {
-        Judged::Refused(why) => {
-            return Checked::Refused(why);
-        }
-        Judged::Passed => {}
-    }
-    if compare::is_built(g, reg, starts, entries) {
-        return Checked::Yes;
-    }
-    Checked::No
-}
 
 // Whether one of the three tables has a byte length off four.
 fn off_four(reg: &[u8], starts: &[u8], entries: &[u8]) -> bool
@@ -99,7 +49,7 @@ fn build(g: Grid, reg: &[u8], starts: &mut [u8], entries: &mut [u8]) -> Answer
     if off_four(reg, starts, entries) {
         return Answer::Refused(Refusal::Lengths);
     }
-    build_numbers(g, reg, starts, entries)
+    whole::build(g, reg, starts, entries)
 }
 
 // Checks in bytes.
@@ -112,7 +62,7 @@ fn check(g: Grid, reg: &[u8], starts: &[u8], entries: &[u8]) -> Checked
     if off_four(reg, starts, entries) {
         return Checked::Refused(Refusal::Lengths);
     }
-    check_numbers(g, reg, starts, entries)
+    whole::check(g, reg, starts, entries)
 }
 
 // Builds starts and entries; value: the entries, or what the refusal names.

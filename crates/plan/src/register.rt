@@ -1,4 +1,5 @@
-// The register and the starts in bytes: read and judged.
+// In bytes, derived by tools/derive from crates/tables/src/register.rt: edit that one.
+// The register and the starts read and judged: the only module that knows where a footprint's numbers stand.
 
 use rules::Grid;
 use rules::Rect;
@@ -12,14 +13,14 @@ ghost use Rattle.rules.specs.Tables.{tables, badLengths};
 ghost use Rattle.tables.specs.First.{firstOr};
 
 // How many footprints a register has.
-pub(crate) fn count(reg: &[u8]) -> usize
+pub fn count(reg: &[u8]) -> usize
     ensures { λ r. ⌜ r ≡ countIs (words (now (reg .entry))) ⌝ }
 {
     words::count(reg) / 4
 }
 
 // Whether the register or the starts have a wrong length.
-pub(crate) fn bad_lengths(g: Grid, reg: &[u8], starts: &[u8]) -> bool
+pub fn bad_lengths(g: Grid, reg: &[u8], starts: &[u8]) -> bool
     ensures { λ r. ⌜ r ≡ badLengths g (tables (words (now (reg .entry))) (words (now (starts .entry))) []) ⌝ }
 {
     if tables::wrong_register(words::count(reg)) {
@@ -29,7 +30,7 @@ pub(crate) fn bad_lengths(g: Grid, reg: &[u8], starts: &[u8]) -> bool
 }
 
 // The rectangle of footprint i.
-pub(crate) fn footprint(g: Grid, reg: &[u8], i: usize) -> Rect
+pub fn footprint(g: Grid, reg: &[u8], i: usize) -> Rect
     requires { ⌜ i < countIs (words (now reg)) ⌝ }
     ensures { λ r. ⌜ r ≡ rectangle g (words (now (reg .entry))) i ⌝ }
 {
@@ -46,7 +47,7 @@ pub(crate) fn footprint(g: Grid, reg: &[u8], i: usize) -> Rect
 }
 
 // Whether footprint i meets refusal 3.
-pub(crate) fn bad_footprint(g: Grid, reg: &[u8], i: usize) -> bool
+pub fn bad_footprint(g: Grid, reg: &[u8], i: usize) -> bool
     requires { ⌜ i < countIs (words (now reg)) ⌝ }
     ensures { λ r. ⌜ r ≡ badFootprint g (words (now (reg .entry))) i ⌝ }
 {
@@ -54,7 +55,7 @@ pub(crate) fn bad_footprint(g: Grid, reg: &[u8], i: usize) -> bool
 }
 
 // The lowest footprint that meets refusal 3, or the count where none does.
-pub(crate) fn first_bad(g: Grid, reg: &[u8]) -> usize
+pub fn first_bad(g: Grid, reg: &[u8]) -> usize
     ensures { λ r. ⌜ r ≡ firstOr (countIs (words (now (reg .entry)))) (badFootprints g (words (now (reg .entry)))) ⌝ }
 {
     let all = count(reg);

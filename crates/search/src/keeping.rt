@@ -5,6 +5,7 @@ use rules::Answer;
 use rules::Grid;
 use rules::Point;
 use rules::Refusal;
+use tables::register;
 ghost use mathlib.Core.Path.{_≡_};
 ghost use Prim.Native.Nat.{_≤_};
 ghost use lib.ListN.{length, take};
@@ -31,7 +32,7 @@ fn judge(
     if grid::bad_sizes(g) {
         return Answer::Refused(Refusal::Sizes);
     }
-    if tables::bad_lengths(g, reg, starts) {
+    if register::bad_lengths(g, reg, starts) {
         return Answer::Refused(Refusal::Lengths);
     }
     let q = Point { x: x, y: y };

@@ -1,5 +1,7 @@
 // The lent tables read and judged: the register and its footprints, the starts, and a run as a part of the entries.
 
+pub mod register; // register.rt: the register's footprints, and the lengths
+
 use rules::Ends;
 use rules::Grid;
 use rules::Rect;
@@ -7,29 +9,20 @@ use rules::Refusal;
 use rules::Span;
 ghost use mathlib.Core.Path.{_≡_};
 ghost use mathlib.Core.Bool.{not, _||_};
-ghost use mathlib.Core.List.{[]};
 ghost use Prim.Native.Nat.{ℕ, _+_, _*_, _/_, _%_, _≤_, _<_};
 ghost use lib.Dec.{ltb, eqb};
 ghost use lib.ListN.{length};
 ghost use Rattle.rules.specs.Sizes.{mostFootprints};
-ghost use Rattle.rules.specs.Register.{numbers, count as countIs, rectangle, badSpan, badFootprint, badFootprints, badEntry, badRegister};
-ghost use Rattle.rules.specs.Tables.{tables, runs, badStarts, badLengths, badEnds};
+ghost use Rattle.rules.specs.Register.{numbers, badSpan, badEntry};
+ghost use Rattle.rules.specs.Tables.{runs, badStarts, badEnds};
 ghost use Rattle.rules.specs.Refusals.{paperEnds};
 ghost use Rattle.rules.specs.Build.{badRun, runEnds, handsBack};
-ghost use Rattle.tables.specs.First.{firstOr};
 
 // A number as a count or a place.
 pub fn wide(x: u32) -> usize
     ensures { λ r. ⌜ r ≡ x ⌝ }
 {
     x as usize
-}
-
-// How many footprints a register has.
-pub fn count(reg: &[u32]) -> usize
-    ensures { λ r. ⌜ r ≡ countIs (now (reg .entry)) ⌝ }
-{
-    reg.len() / 4
 }
 
 // Whether a register of so many numbers is no multiple of four long, or has too many footprints.
@@ -40,13 +33,6 @@ pub fn wrong_register(len: usize) -> bool
         return true;
     }
     rules::MOST_FOOTPRINTS < len / 4
-}
-
-// Whether a register's length is no multiple of four, or it has too many footprints.
-pub fn bad_register(reg: &[u32]) -> bool
-    ensures { λ r. ⌜ r ≡ badRegister (now (reg .entry)) ⌝ }
-{
-    wrong_register(reg.len())
 }
 
 // Whether so many starts are not exactly 16×n²+1.
@@ -67,33 +53,6 @@ pub fn bad_starts(g: Grid, starts: &[u32]) -> bool
     ensures { λ r. ⌜ r ≡ badStarts g (now (starts .entry)) ⌝ }
 {
     wrong_starts(g, starts.len())
-}
-
-// Whether the register or the starts have a wrong length.
-pub fn bad_lengths(g: Grid, reg: &[u32], starts: &[u32]) -> bool
-    ensures { λ r. ⌜ r ≡ badLengths g (tables (now (reg .entry)) (now (starts .entry)) []) ⌝ }
-{
-    if bad_register(reg) {
-        return true;
-    }
-    bad_starts(g, starts)
-}
-
-// The rectangle of footprint i.
-pub fn footprint(g: Grid, reg: &[u32], i: usize) -> Rect
-    requires { ⌜ i < countIs (now reg) ⌝ }
-    ensures { λ r. ⌜ r ≡ rectangle g (now (reg .entry)) i ⌝ }
-{
-    Rect {
-        x: Span {
-            lo: reg[4 * i],
-            hi: reg[4 * i + 2],
-        },
-        y: Span {
-            lo: reg[4 * i + 1],
-            hi: reg[4 * i + 3],
-        },
-    }
 }
 
 // Whether lo > hi, or hi is off the grid.
@@ -118,38 +77,15 @@ pub fn bad_rect(g: Grid, a: Rect) -> bool
     bad_span(g, y)
 }
 
-// Whether footprint i meets refusal 3.
-pub fn bad_footprint(g: Grid, reg: &[u32], i: usize) -> bool
-    requires { ⌜ i < countIs (now reg) ⌝ }
-    ensures { λ r. ⌜ r ≡ badFootprint g (now (reg .entry)) i ⌝ }
-{
-    bad_rect(g, footprint(g, reg, i))
-}
-
 // Whether no entry may name footprint i.
 pub fn bad_entry(g: Grid, reg: &[u32], i: u32) -> bool
     ensures { λ r. ⌜ r ≡ badEntry g (now (reg .entry)) i ⌝ }
 {
     let at = wide(i);
-    if count(reg) <= at {
+    if register::count(reg) <= at {
         return true;
     }
-    bad_footprint(g, reg, at)
-}
-
-// The lowest footprint that meets refusal 3, or the count where none does.
-pub fn first_bad(g: Grid, reg: &[u32]) -> usize
-    ensures { λ r. ⌜ r ≡ firstOr (countIs (now (reg .entry))) (badFootprints g (now (reg .entry))) ⌝ }
-{
-    let all = count(reg);
-    let mut i = 0;
-    while i < all {
-        if bad_footprint(g, reg, i) {
-            return i;
-        }
-        i += 1;
-    }
-    i
+    register::bad_footprint(g, reg, at)
 }
 
 // Whether a run's two starts are damaged, among so many entries.

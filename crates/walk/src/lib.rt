@@ -15,6 +15,7 @@ use rules::Point;
 use rules::Refusal;
 use rules::Walk;
 use rules::Walked;
+use tables::register;
 use take::ROW_NUMBERS;
 use take::run;
 use tile::add_tile;
@@ -95,7 +96,7 @@ fn start_room(g: Grid, reg: &[u32]) -> u64
     requires { ⌜ (count (now reg) ≤ 65536) × (tileCount g ≤ 4096) ⌝ }
     ensures { λ r. ⌜ r ≡ startRoom g (now (reg .entry)) ⌝ }
 {
-    let footprints = tables::count(reg) as u64;
+    let footprints = register::count(reg) as u64;
     let tiles = grid::tile_count(g) as u64;
     3 * (footprints + tiles + 4)
 }
@@ -159,7 +160,7 @@ pub fn start(
     if grid::bad_sizes(g) {
         return refused(Refusal::Sizes, refused_walk());
     }
-    if tables::bad_lengths(g, reg, starts) {
+    if register::bad_lengths(g, reg, starts) {
         return refused(Refusal::Lengths, refused_walk());
     }
     if grid::bad_point(g, q) {
@@ -170,7 +171,7 @@ pub fn start(
     if t.bad {
         return refused(Refusal::Damage, refused_walk());
     }
-    if tables::count(reg) < t.count {
+    if register::count(reg) < t.count {
         return refused(Refusal::Damage, refused_walk());
     }
     let need = start_room(g, reg);
@@ -245,7 +246,7 @@ pub fn ask(
     if grid::bad_sizes(g) {
         return refused(Refusal::Sizes, walk);
     }
-    if tables::bad_lengths(g, reg, starts) {
+    if register::bad_lengths(g, reg, starts) {
         return refused(Refusal::Lengths, walk);
     }
     let q = Point {

@@ -7,6 +7,7 @@ use rules::Item;
 use rules::Point;
 use rules::Row;
 use rules::Three;
+use tables::register;
 ghost use mathlib.Core.Path.{_≡_};
 ghost use mathlib.Core.Bool.{true, false, not, _||_};
 ghost use mathlib.Core.List.{[], _∷_, map};
@@ -143,7 +144,7 @@ fn footprint_row(g: Grid, reg: &[u32], q: Point, i: u32) -> Three
     requires { ⌜ badEntry g (now reg) i ≡ false ⌝ }
     ensures { λ r. ⌜ r ≡ waitingRow g (now (reg .entry)) q (Footprint i) ⌝ }
 {
-    let a = tables::footprint(g, reg, tables::wide(i));
+    let a = register::footprint(g, reg, tables::wide(i));
     let square = grid::square(grid::near::point(q), a);
     let item = Item::Footprint(i);
     front::encode(Row { square, item })

@@ -36,8 +36,8 @@ returns-2 c =
     let a = c .before .before .before .before .before .before .before .before .before .args in
     build-lengths (a .g) (a .reg .now) (a .starts .now) (a .entries .now) (sizes (c .before .before .before .before)) (sym (c .before .off-four .ensures) ∙ c .if2 .taken)
 
-build-numbers-requires : tie.Need-build-numbers-requires
-build-numbers-requires c κs = search needs
+build-requires : tie.Need-build-requires
+build-requires c κs = search needs
 
 same-length-3 : tie.Need-same-length-3
 same-length-3 c = search needs
@@ -48,7 +48,7 @@ same-length-4 c = search needs
 returns-3 : tie.Need-returns-3
 returns-3 c =
     let a = c .before .before .before .before .before .before .before .before .before .before .before .before .before .before .before .before .args in
-    let b = c .before .before .before .before .build-numbers in
+    let b = c .before .before .before .before .build in
     build-bytes (a .g) (a .reg .now) (a .starts .now) (a .entries .now) (sizes (c .before .before .before .before .before .before .before .before .before .before .before)) (sym (c .before .before .before .before .before .before .before .before .off-four .ensures) ∙ c .before .before .before .before .before .before .before .if2 .left) _ _ _
     (λ i h. omega (arith, c .before .before .slice-known3 .given i)) (λ i h. omega (arith, c .slice-known4 .given i)) (b .kept .1 .1 .0) (b .kept .1 .1 .1 .0) (b .ensures)
 
@@ -62,7 +62,7 @@ build-spec =
     same-length
     same-length-2
     returns-2
-    build-numbers-requires
+    build-requires
     same-length-3
     same-length-4
     returns-3)

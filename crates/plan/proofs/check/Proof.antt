@@ -29,13 +29,13 @@ returns-2 c =
     let a = c .before .before .before .before .before .before .before .args in
     check-lengths (a .g) (a .reg .now) (a .starts .now) (a .entries .now) (sizes (c .before .before)) (sym (c .before .off-four .ensures) ∙ c .if2 .taken)
 
-check-numbers-requires : tie.Need-check-numbers-requires
-check-numbers-requires c κs = search needs
+check-requires : tie.Need-check-requires
+check-requires c κs = search needs
 
 returns-3 : tie.Need-returns-3
 returns-3 c =
     let a = c .before .before .before .before .before .before .before .before .args in
-    check-bytes (a .g) (a .reg .now) (a .starts .now) (a .entries .now) (sizes (c .before .before .before)) (sym (c .before .before .off-four .ensures) ∙ c .before .if2 .left) _ (c .check-numbers .ensures)
+    check-bytes (a .g) (a .reg .now) (a .starts .now) (a .entries .now) (sizes (c .before .before .before)) (sym (c .before .before .off-four .ensures) ∙ c .before .if2 .left) _ (c .check .ensures)
 
 pub check-spec : {M : Type 1} → statement M
 check-spec =
@@ -45,5 +45,5 @@ check-spec =
     returns
     off-four-requires
     returns-2
-    check-numbers-requires
+    check-requires
     returns-3)

@@ -1,3 +1,4 @@
+-- In bytes, derived by tools/derive from crates/tables/proofs/register/bad_footprint/Proof.antt: edit that one.
 -- `plan::register::bad_footprint` meets its contract: its rectangle has a bad span. Assumes nothing.
 use mathlib.Core.Path.{ap, _∙_}
 use mathlib.Core.Bool.{_||_}

@@ -1,3 +1,4 @@
+-- In bytes, derived by tools/derive from crates/tables/proofs/register/bad_lengths/Proof.antt: edit that one.
 -- `plan::register::bad_lengths` meets its contract. Assumes nothing.
 use mathlib.Core.Path.{sym, ap, _∙_}
 use mathlib.Core.Bool.{Bool, not, _||_}

@@ -1,3 +1,4 @@
+-- In bytes, derived by tools/derive from crates/tables/proofs/register/count/Proof.antt: edit that one.
 -- `plan::register::count` meets its contract. Assumes nothing.
 use mathlib.Core.Path.{ap}
 use Prim.Native.Nat.{ℕ, _/_}

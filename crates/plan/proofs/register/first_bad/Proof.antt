@@ -1,3 +1,4 @@
+-- In bytes, derived by tools/derive from crates/tables/proofs/register/first_bad/Proof.antt: edit that one.
 -- `plan::register::first_bad` meets its contract: what is left to look at begins with the first bad footprint of all. Assumes nothing.
 use borrow.Author.Needs.{needs}
 use mathlib.Core.Path.{sym, _∙_}

@@ -1,3 +1,4 @@
+-- In bytes, derived by tools/derive from crates/tables/proofs/register/footprint/Proof.antt: edit that one.
 -- `plan::register::footprint` meets its contract: its four numbers stand in the register. Assumes nothing.
 use mathlib.Core.Path.{ap₂}
 use Prim.Native.Nat.{ℕ, _+_, _*_, _≤_, _<_, _^_}

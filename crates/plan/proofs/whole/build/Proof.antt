@@ -1,4 +1,5 @@
--- `plan::build_numbers` meets its contract: refused as judged, refused for room, or built by the counting sort. Assumes nothing.
+-- In bytes, derived by tools/derive from crates/index/proofs/whole/build/Proof.antt: edit that one.
+-- `plan::whole::build` meets its contract: refused as judged, refused for room, or built by the counting sort. Assumes nothing.
 use mathlib.Core.Path.{_≡_, sym, ap, _∙_}
 use lib.ListN.{length}
 use Rattle.rules.specs.Bytes.{words}
@@ -12,8 +13,8 @@ use Rattle.index.proofs.Made.{Lies, need-made}
 use Rattle.index.proofs.Verdict.{accepted, accepted-lies, starts-stand, build-refused, build-short, build-done}
 use native.Mathlib.Omega.{arith}
 use borrow.Author.Needs.{needs}
-use Rattle.plan.proofs.build_numbers.Statement.{statement}
-use Rattle.plan.proofs.build_numbers.Tie as tie
+use Rattle.plan.proofs.whole.build.Statement.{statement}
+use Rattle.plan.proofs.whole.build.Tie as tie
 
 passed : (c : tie.After-enum-told) → registerVerdict (c .before .before .before .before .before .before .before .args .g) (words (c .before .before .before .before .before .before .before .args .reg .now)) (words (c .before .before .before .before .before .before .before .args .starts .now)) pass ≡ pass
 passed c = sym (c .before .before .judge .ensures) ∙ ap verdict (c .enum-told .given .1)
@@ -87,8 +88,8 @@ returns-3 c =
     let a = c .before .before .before .before .before .before .before .before .before .before .before .before .before .before .before .before .before .before .args in
     build-done (a .g) (words (a .reg .now)) (words (a .starts .now)) (words (a .entries .now)) (passed (c .before .before .before .before .before .before .before .before .before .before .before)) (c .before .before .before .before .before .before .before .before .before .before .total .result) (need (c .before .before .before .before .before .before .before .before .before .before)) (omega (arith, c .before .before .before .before .before .before .before .if1 .left, c .before .before .before .before .before .before .before .before .count .ensures)) _ _ (c .before .before .before .before .fill .ensures .0) (c .before .before .before .before .fill .ensures .1)
 
-pub build-numbers-spec : {M : Type 1} → statement M
-build-numbers-spec =
+pub build-spec : {M : Type 1} → statement M
+build-spec =
     tie.close
     (tie.spec
     judge-requires

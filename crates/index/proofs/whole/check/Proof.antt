@@ -1,4 +1,4 @@
--- `index::check` meets its contract: refused as judged, else yes exactly where the tables are what the build leaves. Assumes nothing.
+-- `index::whole::check` meets its contract: refused as judged, else yes exactly where the tables are what the build leaves. Assumes nothing.
 use mathlib.Core.Path.{_≡_, sym, ap, _∙_}
 use Rattle.rules.specs.Refusals.{pass}
 use Rattle.rules.specs.Build.{registerVerdict}
@@ -6,8 +6,8 @@ use Rattle.rules.proofs.Good.{good-sizes, few-footprints}
 use Rattle.index.specs.Judged.{verdict}
 use Rattle.index.proofs.Verdict.{accepted, accepted-lies, starts-stand, check-refused, check-yes, check-no}
 use borrow.Author.Needs.{needs}
-use Rattle.index.proofs.check.Statement.{statement}
-use Rattle.index.proofs.check.Tie as tie
+use Rattle.index.proofs.whole.check.Statement.{statement}
+use Rattle.index.proofs.whole.check.Tie as tie
 
 passed : (c : tie.After-enum-told) → registerVerdict (c .before .before .before .before .before .before .args .g) (c .before .before .before .before .before .before .args .reg .now) (c .before .before .before .before .before .before .args .starts .now) pass ≡ pass
 passed c = sym (c .before .before .judge .ensures) ∙ ap verdict (c .enum-told .given .1)
@@ -19,18 +19,23 @@ enum-known-why : tie.Need-enum-known-why
 enum-known-why c = search needs
 
 returns : tie.Need-returns
-returns c = check-refused (c .before .before .before .before .before .before .before .args .g) (c .before .before .before .before .before .before .before .args .reg .now) (c .before .before .before .before .before .before .before .args .starts .now) (c .before .before .before .before .before .before .before .args .entries .now) (c .before .why .given .0 .0) (sym (c .before .before .before .judge .ensures) ∙ ap verdict (c .before .why .given .1))
+returns c =
+    let a = c .before .before .before .before .before .before .before .args in
+    check-refused (a .g) (a .reg .now) (a .starts .now) (a .entries .now) (c .before .why .given .0 .0) (sym (c .before .before .before .judge .ensures) ∙ ap verdict (c .before .why .given .1))
 
 enum-told : tie.Need-enum-told
 enum-told c = search needs
 
 is-built-requires : tie.Need-is-built-requires
 is-built-requires c κs =
-    let p = passed (c) in
-    let a = accepted (c .before .before .before .before .before .before .args .g) (c .before .before .before .before .before .before .args .reg .now) (c .before .before .before .before .before .before .args .starts .now) p in
-    let s = good-sizes (c .before .before .before .before .before .before .args .g) (a .sizes) in (
-      (s .n-pos, s .n-most, s .side-pos, s .side-most, starts-stand (c .before .before .before .before .before .before .args .g) (c .before .before .before .before .before .before .args .reg .now) (c .before .before .before .before .before .before .args .starts .now) p),
-      (few-footprints (c .before .before .before .before .before .before .args .g) (c .before .before .before .before .before .before .args .reg .now) a, accepted-lies (c .before .before .before .before .before .before .args .g) (c .before .before .before .before .before .before .args .reg .now) (c .before .before .before .before .before .before .args .starts .now) p),
+    let g = c .before .before .before .before .before .before .args .g in
+    let reg = c .before .before .before .before .before .before .args .reg .now in
+    let starts = c .before .before .before .before .before .before .args .starts .now in
+    let p = passed c in
+    let a = accepted g reg starts p in
+    let s = good-sizes g (a .sizes) in (
+      (s .n-pos, s .n-most, s .side-pos, s .side-most, starts-stand g reg starts p),
+      (few-footprints g reg a, accepted-lies g reg starts p),
     )
 
 returns-2 : tie.Need-returns-2

@@ -1,4 +1,5 @@
--- `plan::check_numbers` meets its contract: refused as judged, else yes exactly where the tables are what the build leaves. Assumes nothing.
+-- In bytes, derived by tools/derive from crates/index/proofs/whole/check/Proof.antt: edit that one.
+-- `plan::whole::check` meets its contract: refused as judged, else yes exactly where the tables are what the build leaves. Assumes nothing.
 use mathlib.Core.Path.{_≡_, sym, ap, _∙_}
 use Rattle.rules.specs.Bytes.{words}
 use Rattle.rules.specs.Refusals.{pass}
@@ -7,8 +8,8 @@ use Rattle.rules.proofs.Good.{good-sizes, few-footprints}
 use Rattle.index.specs.Judged.{verdict}
 use Rattle.index.proofs.Verdict.{accepted, accepted-lies, starts-stand, check-refused, check-yes, check-no}
 use borrow.Author.Needs.{needs}
-use Rattle.plan.proofs.check_numbers.Statement.{statement}
-use Rattle.plan.proofs.check_numbers.Tie as tie
+use Rattle.plan.proofs.whole.check.Statement.{statement}
+use Rattle.plan.proofs.whole.check.Tie as tie
 
 passed : (c : tie.After-enum-told) → registerVerdict (c .before .before .before .before .before .before .args .g) (words (c .before .before .before .before .before .before .args .reg .now)) (words (c .before .before .before .before .before .before .args .starts .now)) pass ≡ pass
 passed c = sym (c .before .before .judge .ensures) ∙ ap verdict (c .enum-told .given .1)
@@ -45,8 +46,8 @@ returns-2 c = check-yes (c .before .before .before .before .before .before .befo
 returns-3 : tie.Need-returns-3
 returns-3 c = check-no (c .before .before .before .before .before .before .before .before .args .g) (words (c .before .before .before .before .before .before .before .before .args .reg .now)) (words (c .before .before .before .before .before .before .before .before .args .starts .now)) (words (c .before .before .before .before .before .before .before .before .args .entries .now)) (passed (c .before .before)) (sym (c .before .is-built .ensures) ∙ c .if1 .left)
 
-pub check-numbers-spec : {M : Type 1} → statement M
-check-numbers-spec =
+pub check-spec : {M : Type 1} → statement M
+check-spec =
     tie.close
     (tie.spec
     judge-requires

@@ -1,11 +1,11 @@
--- `tables::bad_footprint` meets its contract: its rectangle has a bad span. Assumes nothing.
+-- `tables::register::bad_footprint` meets its contract: its rectangle has a bad span. Assumes nothing.
 use mathlib.Core.Path.{ap, _∙_}
 use mathlib.Core.Bool.{_||_}
 use Rattle.rules.specs.Register.{rectangle, badSpan, badFootprint}
 use Rattle.rules.specs.declared.Rect.{Rect}
 use borrow.Author.Needs.{needs}
-use Rattle.tables.proofs.bad_footprint.Statement.{statement}
-use Rattle.tables.proofs.bad_footprint.Tie as tie
+use Rattle.tables.proofs.register.bad_footprint.Statement.{statement}
+use Rattle.tables.proofs.register.bad_footprint.Tie as tie
 
 footprint-requires : tie.Need-footprint-requires
 footprint-requires c κs = search needs

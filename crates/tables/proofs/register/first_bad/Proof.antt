@@ -1,12 +1,12 @@
--- `tables::first_bad` meets its contract: what is left to look at begins with the first bad footprint of all. Assumes nothing.
+-- `tables::register::first_bad` meets its contract: what is left to look at begins with the first bad footprint of all. Assumes nothing.
 use borrow.Author.Needs.{needs}
 use mathlib.Core.Path.{sym, _∙_}
 use Prim.Native.Nat.{_-_}
 use Rattle.rules.specs.Register.{count, footprints, badFootprint, badFootprints}
 use Rattle.tables.proofs.Footprints.{Sought, sought-all, sought-here, sought-on, sought-out}
 use native.Mathlib.Omega.{arith}
-use Rattle.tables.proofs.first_bad.Statement.{statement}
-use Rattle.tables.proofs.first_bad.Tie as tie
+use Rattle.tables.proofs.register.first_bad.Statement.{statement}
+use Rattle.tables.proofs.register.first_bad.Tie as tie
 
 abbrev Inv-loop : tie.InvT-loop
 Inv-loop g reg all₀ i₀ i = Sought (badFootprint g reg) (count reg) i
