@@ -12,7 +12,6 @@ use Rattle.laws.proofs.Tests.{both-true}
 use Rattle.rules.specs.Register.{count}
 use Rattle.rules.specs.Tables.{stands}
 use Rattle.rules.specs.declared.Grid.{Grid}
-use Rattle.numbers.proofs.Laws.{word-count}
 use Rattle.index.specs.Check.{standsAt, isRun}
 use Rattle.index.proofs.Right.{stands-at, tile-on}
 use native.Mathlib.Omega.{arith}
@@ -102,7 +101,7 @@ add-least : tie.Need-add-least Inv-loop μ-loop
 add-least c = omega arith
 
 add-j : tie.Need-add-j Inv-loop μ-loop
-add-j c = omega (arith, more (c .before .before .before .before .before .before), word-count (c .before .before .before .before .before .before .before .before .before .before .before .before .before .args .run .now), c .before .before .before .before .before .before .before .before .before .before .before .before .before .good)
+add-j c = omega (arith, more (c .before .before .before .before .before .before), c .before .before .before .before .before .before .before .before .before .before .before .before .before .good)
 
 loop-less : tie.Need-loop-less Inv-loop μ-loop
 loop-less c = omega (arith, more (c .before .before .before .before .before .before))
