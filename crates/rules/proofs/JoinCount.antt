@@ -29,7 +29,7 @@ use Rattle.laws.proofs.Computed.{all-mem}
 -- ---- the entries of runs without damage
 
 -- a run without damage ends no earlier than it begins, and not past 268,435,456
-good-ends : (g : Grid) (t : Tables) (k : ℕ) → goodRun g t k ≡ true → (runStart (t .starts) k ≤ runEnd (t .starts) k) × (runEnd (t .starts) k ≤ 268435456)
+pub good-ends : (g : Grid) (t : Tables) (k : ℕ) → goodRun g t k ≡ true → (runStart (t .starts) k ≤ runEnd (t .starts) k) × (runEnd (t .starts) k ≤ 268435456)
 unfolding goodRun badEnds
 good-ends g t k e =
     let a = runStart (t .starts) k in
@@ -39,7 +39,7 @@ good-ends g t k e =
     (ltb-false _ _ (neither (ltb z a) (ltb (length (t .entries)) z) (h .0) .0), ltb-false _ _ (h .1))
 
 -- a run is no longer than its ends are apart
-run-length : (t : Tables) (k : ℕ) → length (runAt t k) ≤ runEnd (t .starts) k - runStart (t .starts) k
+pub run-length : (t : Tables) (k : ℕ) → length (runAt t k) ≤ runEnd (t .starts) k - runStart (t .starts) k
 unfolding runAt
 run-length t k =
     let a = runStart (t .starts) k in

@@ -25,7 +25,7 @@ unfolding hitText
 hit-length i s h k =
     omega (arith, length-append (lineOf noWord i) (lineOf squareWord s), line-length noWord 2 i h, line-length squareWord 11 s k)
 
-each-length : (f : ℕ → List ℕ) (m : ℕ) (l : List ℕ) → ((i : ℕ) → List·Memᴰ i l → length (f i) ≤ m) → length (each f l) ≤ m * length l
+pub each-length : (f : ℕ → List ℕ) (m : ℕ) (l : List ℕ) → ((i : ℕ) → List·Memᴰ i l → length (f i) ≤ m) → length (each f l) ≤ m * length l
 each-length f m [] h = omega arith
 each-length f m (a ∷ l) h =
     omega (

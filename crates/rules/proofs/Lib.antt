@@ -7,6 +7,8 @@ pub mod Visits
 pub mod Box
 pub mod Papers
 pub mod Unique
+pub mod FirstRefused
+pub mod Probes
 pub mod JoinSpans
 pub mod JoinTiles
 pub mod JoinBoxes
@@ -32,3 +34,4 @@ pub mod Lengths
 pub mod Written
 pub mod Grammar
 pub mod Bytes
+pub mod FewHits

@@ -3,12 +3,14 @@ use mathlib.Core.Path.{_≡_, refl, sym, ap, _∙_}
 use mathlib.Core.Bool.{false, cond}
 use Prim.Native.Nat.{ℕ}
 use lib.Dec.{eqb}
-use lib.ListN.{getD}
-use Rattle.rules.specs.Refusals.{Paper, paper, paperAnswer, paperChecked, paperEnds}
+use lib.ListN.{length, getD, drop}
+use Rattle.rules.specs.Refusals.{Paper, says, paper, paperAnswer, paperListed, paperChecked, paperEnds}
 use Rattle.rules.specs.declared.Refusal.{Refusal}
 use Rattle.rules.specs.declared.Refusal.the-variants.{Sizes, Lengths, Footprint, Place, Radius, Damage, Room, Text}
 use Rattle.rules.specs.declared.Answer.{Answer}
 use Rattle.rules.specs.declared.Answer.the-variants as answer
+use Rattle.rules.specs.declared.Listed.{Listed}
+use Rattle.rules.specs.declared.Listed.the-variants as listed
 use Rattle.rules.specs.declared.Checked.{Checked}
 use Rattle.rules.specs.declared.Checked.the-variants as checked
 use Rattle.rules.specs.declared.Ends.{Ends}
@@ -58,6 +60,33 @@ unfolding paperAnswer
 answer-back (answer.Done v) = refl
 answer-back (answer.Refused r) = rw (refused-number r) (ap answer.Refused (refusal-back r))
 
+-- a probe's index in front of a refusal is one value more than the refusal has
+abbrev listedOn : Paper → Listed
+listedOn p =
+    cond (eqb (p .number) 0) (listed.Done (value p 0))
+    (cond (eqb (length (p .values)) (length (paper (refusalOn p) .values))) (listed.Refused (refusalOn p))
+    (listed.At (refusalOn (says (p .number) (drop 1 (p .values)))) (value p 0)))
+
+listed-back : (a : Listed) → listedOn (paperListed a) ≡ a
+unfolding paperListed paper
+listed-back (listed.Done v) = refl
+listed-back (listed.At Sizes i) = refl
+listed-back (listed.At Lengths i) = refl
+listed-back (listed.At (Footprint k) i) = refl
+listed-back (listed.At Place i) = refl
+listed-back (listed.At Radius i) = refl
+listed-back (listed.At Damage i) = refl
+listed-back (listed.At (Room need) i) = refl
+listed-back (listed.At (Text line) i) = refl
+listed-back (listed.Refused Sizes) = refl
+listed-back (listed.Refused Lengths) = refl
+listed-back (listed.Refused (Footprint k)) = refl
+listed-back (listed.Refused Place) = refl
+listed-back (listed.Refused Radius) = refl
+listed-back (listed.Refused Damage) = refl
+listed-back (listed.Refused (Room need)) = refl
+listed-back (listed.Refused (Text line)) = refl
+
 checked-back : (a : Checked)
     → cond (eqb (paperChecked a .number) 0) (cond (eqb (value (paperChecked a) 0) 1) checked.Yes checked.No) (checked.Refused (refusalOn (paperChecked a))) ≡ a
 unfolding paperChecked
@@ -81,6 +110,9 @@ answers-same a b e =
     sym (answer-back a)
     ∙ ap (λ (p : Paper). cond (eqb (p .number) 0) (answer.Done (value p 0)) (answer.Refused (refusalOn p))) e
     ∙ answer-back b
+
+pub listed-same : (a b : Listed) → paperListed a ≡ paperListed b → a ≡ b
+listed-same a b e = sym (listed-back a) ∙ ap listedOn e ∙ listed-back b
 
 pub checks-same : (a b : Checked) → paperChecked a ≡ paperChecked b → a ≡ b
 checks-same a b e =

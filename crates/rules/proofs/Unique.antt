@@ -3,19 +3,22 @@ use mathlib.Core.Path.{_≡_, sym, ap, ap₂, _∙_}
 use mathlib.Core.List.{List}
 use Prim.Native.Nat.{ℕ}
 use Rattle.rules.specs.Tables.{Tables}
-use Rattle.rules.specs.Refusals.{Paper, paperAnswer, paperChecked, paperEnds}
+use Rattle.rules.specs.Refusals.{Paper, paperAnswer, paperListed, paperChecked, paperEnds}
 use Rattle.rules.specs.Build.{builds, checks, runEnds, handsBack}
 use Rattle.rules.specs.Search.{searches}
+use Rattle.rules.specs.Probes.{searchesAll}
 use Rattle.rules.specs.Join.{joins}
 use Rattle.rules.specs.Walk.{begun, asks}
 use Rattle.rules.specs.declared.Grid.{Grid}
 use Rattle.rules.specs.declared.Point.{Point}
+use Rattle.rules.specs.declared.Probe.{Probe}
 use Rattle.rules.specs.declared.Answer.{Answer}
+use Rattle.rules.specs.declared.Listed.{Listed}
 use Rattle.rules.specs.declared.Checked.{Checked}
 use Rattle.rules.specs.declared.Ends.{Ends}
 use Rattle.rules.specs.declared.Walk.{Walk}
 use Rattle.rules.specs.declared.Walked.{Walked}
-use Rattle.rules.proofs.Papers.{answers-same, checks-same, ends-same}
+use Rattle.rules.proofs.Papers.{answers-same, listed-same, checks-same, ends-same}
 
 -- an answer with one, two or three things beside it
 one-beside : {A : Type 0} (a b : Answer) (x x′ : A) → _≡_ {A = Paper × A} (paperAnswer a, x) (paperAnswer b, x′) → (a ≡ b) × (x ≡ x′)
@@ -59,6 +62,16 @@ module _ (g : Grid) where
   pub one-search : (t : Tables) (q : Point) (r : ℕ) (out : List ℕ) (a b : Answer) (o o′ : List ℕ)
       → (paperAnswer a, o) ≡ searches g t q r out → (paperAnswer b, o′) ≡ searches g t q r out → (a ≡ b) × (o ≡ o′)
   one-search t q r out a b o o′ u v = one-beside a b o o′ (u ∙ sym v)
+
+  pub one-search-all : (t : Tables) (ps : List Probe) (out ends : List ℕ) (a b : Listed) (o o′ e e′ : List ℕ)
+      → (paperListed a, o, e) ≡ searchesAll g t ps out ends → (paperListed b, o′, e′) ≡ searchesAll g t ps out ends
+      → (a ≡ b) × (o ≡ o′) × (e ≡ e′)
+  one-search-all t ps out ends a b o o′ e e′ u v =
+      let s = u ∙ sym v in (
+        listed-same a b (ap (λ (x : Paper × List ℕ × List ℕ). x .0) s),
+        ap (λ (x : Paper × List ℕ × List ℕ). x .1) s,
+        ap (λ (x : Paper × List ℕ × List ℕ). x .2) s,
+      )
 
   pub one-join : (tr ts : Tables) (r : ℕ) (out : List ℕ) (a b : Answer) (o o′ : List ℕ)
       → (paperAnswer a, o) ≡ joins g tr ts r out → (paperAnswer b, o′) ≡ joins g tr ts r out → (a ≡ b) × (o ≡ o′)

@@ -7,6 +7,7 @@ pub mod Tables
 pub mod Refusals
 pub mod Build
 pub mod Search
+pub mod Probes
 pub mod Box
 pub mod Join
 pub mod JoinSteps

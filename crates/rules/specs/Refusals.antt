@@ -10,6 +10,8 @@ use Rattle.rules.specs.declared.Refusal.{Refusal}
 use Rattle.rules.specs.declared.Refusal.the-variants.{Sizes, Lengths, Footprint, Place, Radius, Damage, Room, Text}
 use Rattle.rules.specs.declared.Answer.{Answer}
 use Rattle.rules.specs.declared.Answer.the-variants as answer
+use Rattle.rules.specs.declared.Listed.{Listed}
+use Rattle.rules.specs.declared.Listed.the-variants as listed
 use Rattle.rules.specs.declared.Checked.{Checked}
 use Rattle.rules.specs.declared.Checked.the-variants as checked
 use Rattle.rules.specs.declared.Ends.{Ends}
@@ -36,6 +38,12 @@ paper (Text line) = says 8 (line ∷ [])
 unfoldable pub paperAnswer : Answer → Paper
 paperAnswer (answer.Done v) = says 0 (v ∷ [])
 paperAnswer (answer.Refused r) = paper r
+
+-- of a probe's refusal its index comes first
+unfoldable pub paperListed : Listed → Paper
+paperListed (listed.Done v) = says 0 (v ∷ [])
+paperListed (listed.At why i) = says (paper why .number) (i ∷ paper why .values)
+paperListed (listed.Refused why) = paper why
 
 unfoldable pub paperChecked : Checked → Paper
 paperChecked checked.Yes = says 0 (1 ∷ [])

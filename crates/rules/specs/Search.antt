@@ -47,7 +47,10 @@ isHit g reg q r i = within r (point q) (rectangle g reg i)
 unfoldable pub radiusHits : Grid → Tables → Point → ℕ → List ℕ
 radiusHits g t q r = filter (isHit g (t .reg) q r) (each (runAt t) (readRuns g q r))
 
--- the numbers that a hit writes
+-- the numbers that a hit writes, and how many they are
+abbrev pub hitNumbers : ℕ
+hitNumbers = 1
+
 unfoldable pub hitWrites : Grid → List ℕ → Point → ℕ → List ℕ
 hitWrites g reg q i = i ∷ []
 

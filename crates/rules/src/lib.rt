@@ -12,6 +12,12 @@ pub const MOST_ENTRIES: usize = 268435456;
 
 pub const MOST_RADIUS: u32 = 2097151;
 
+// Probes in a list.
+pub const MOST_PROBES: usize = 65536;
+
+// The numbers that a hit writes.
+pub const HIT_NUMBERS: usize = 1;
+
 // n by n tiles, each side cm wide and high.
 pub struct Grid {
     pub n: u32,
@@ -36,6 +42,14 @@ pub struct Point {
     pub y: u32,
 }
 
+// A search of a list: its point and its radius. C lends such a list, so it lies as C lays it out.
+#[repr(C)]
+pub struct Probe {
+    pub x: u32,
+    pub y: u32,
+    pub r: u32,
+}
+
 // Why a call is refused. The definition `paper` gives the numbers 1, 2, 3, 4, 5, 7, 6 and 8, in this order.
 pub enum Refusal {
     Sizes,
@@ -54,6 +68,14 @@ pub enum Refusal {
 // Done holds the entries built, the hits, the pairs or the rows given; of a start, 0.
 pub enum Answer {
     Done(u64),
+    Refused(Refusal),
+}
+
+// What a list of searches answers. Done holds the numbers written in all, At a refusal and the index of the probe that meets it, 0 where it is
+// of the sizes or the lengths, and Refused the one for room.
+pub enum Listed {
+    Done(u64),
+    At(Refusal, u32),
     Refused(Refusal),
 }
 
