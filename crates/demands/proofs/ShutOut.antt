@@ -1,21 +1,26 @@
 -- Wrong programs that no promise lets through, whatever their code: one that refuses always, one whose answer is constant, one that does
--- nothing. The starred cases tell them apart. Assumes nothing.
+-- nothing. The starred cases tell them apart, and two of them as one list. Assumes nothing.
 use mathlib.Core.Path.{_≡_, refl, sym, ap, _∙_}
 use mathlib.Core.List.{List, [], _∷_, map}
 use Prim.Native.Nat.{ℕ, _<_}
 use native.Mathlib.Omega.{arith}
 use lib.ListN.{getD, replicate}
-use Rattle.rules.specs.Sizes.{badSizes, tileCount}
-use Rattle.rules.specs.Register.{count, footprints, badFootprints, badRegister}
-use Rattle.rules.specs.Tables.{Tables, runs, runNo, runStart, runEnd, badStarts, badEnds, badLengths, builtRun, builtEntries, builtStarts}
-use Rattle.rules.specs.Refusals.{Paper, says, paper, paperChecked, paperEnds}
+use Rattle.rules.specs.Sizes.{badSizes, offGrid, badPoint, column, rowOf, columnOf, tileCount, tiles}
+use Rattle.rules.specs.Span.{cover, gap, meets, begins, ends, place}
+use Rattle.rules.specs.Distance.{square, within, point, tileRect, shares}
+use Rattle.rules.specs.Classes.{classNo, isSet, classOf, allowed, allowedIn}
+use Rattle.rules.specs.Register.{count, footprints, recorded, rectangle, badSpan, badFootprint, badFootprints, badEntry, badRegister}
+use Rattle.rules.specs.Tables.{Tables, runs, runNo, tileRuns, runStart, runEnd, runAt, badStarts, badEnds, badLengths, goodRun, goodRuns, stands, builtRun, builtEntries, builtStarts, builtTables}
+use Rattle.rules.specs.Refusals.{Paper, says, paper, paperListed, paperChecked, paperEnds}
 use Rattle.rules.specs.Build.{registerVerdict, buildVerdict, builds, isBuilt, checks, badRun, runVerdict, runEnds}
-use Rattle.rules.specs.Search.{searches}
+use Rattle.rules.specs.Search.{allowedRun, allowedRuns, visits, visited, readRuns, isHit, radiusHits, hitWrites, searchVerdict, searches}
+use Rattle.rules.specs.Probes.{probeWrites, probesWrite, listEnds, probesVerdict, firstRefused, listsRoom, searchesAll}
 use Rattle.rules.specs.Join.{joins}
 use Rattle.rules.specs.Walk.{begun, askVerdict, asks}
 use Rattle.rules.specs.Yard.{yard, Y, dig, built, pt, answered, Case, cases}
 use Rattle.rules.specs.declared.Grid.{Grid}
 use Rattle.rules.specs.declared.Point.{Point}
+use Rattle.rules.specs.declared.Probe.{Probe}
 use Rattle.rules.specs.declared.Walk.{Walk}
 use Rattle.rules.proofs.Starred.{starred}
 
@@ -51,6 +56,15 @@ four-pairs = row 15
 over-side : joins yard (built dig) (built Y) 101 (replicate 1 7) ≡ (says 5 [], 7 ∷ [])
 unfolding cases answered
 over-side = row 16
+
+-- two searches as one list, at one point with the radii of these
+abbrev twoProbes : List Probe
+twoProbes = record { x = 150; y = 150; r = 69 } ∷ record { x = 150; y = 150; r = 70 } ∷ []
+
+two-lists : searchesAll yard (built Y) twoProbes (replicate 6 7) (replicate 3 7)
+    ≡ (says 0 (5 ∷ []), 0 ∷ 3 ∷ 0 ∷ 3 ∷ 1 ∷ 7 ∷ [], 2 ∷ 5 ∷ 7 ∷ [])
+unfolding yard Y built badSizes offGrid badPoint column rowOf columnOf tileCount tiles cover gap meets begins ends place square within point tileRect shares classNo isSet classOf allowed allowedIn count footprints recorded rectangle badSpan badFootprint badEntry badRegister runs tileRuns badStarts badLengths runStart runEnd runAt badEnds goodRun goodRuns stands builtRun builtEntries builtStarts builtTables paperListed allowedRun allowedRuns visits visited readRuns isHit radiusHits hitWrites searchVerdict probeWrites probesWrite listEnds probesVerdict firstRefused listsRoom searchesAll
+two-lists = refl
 
 given-five : let b = begun yard (built Y) (pt 150 150) (replicate 75 7) in
     (asks yard (built Y) (b .2) (b .1) 7 (replicate 14 7) .0 ≡ says 0 (5 ∷ []))
@@ -97,6 +111,10 @@ run-nowhere = refl
 run-smallest : runEnds smallest (replicate 17 0) 0 0 0 ≡ says 0 (0 ∷ 0 ∷ [])
 unfolding runEnds runVerdict badSizes badStarts runs tileCount badRun badEnds runNo runStart runEnd paperEnds
 run-smallest = refl
+
+all-nowhere : (t : Tables) (ps : List Probe) (out ends : List ℕ) → searchesAll nowhere t ps out ends .0 ≡ says 1 (0 ∷ [])
+unfolding searchesAll probesVerdict badSizes paperListed paper
+all-nowhere t ps out ends = refl
 
 asked-nowhere : (t : Tables) (front : List ℕ) (w : Walk) (j : ℕ) (out : List ℕ) → asks nowhere t front w j out .0 ≡ says 1 []
 unfolding asks askVerdict badSizes paper
@@ -158,6 +176,30 @@ search-not-idle h =
     absurd-number {k = 0} {m = 7} (omega arith)
     (ap (λ (l : List ℕ). getD l 0 1)
     (ap (λ (t : Paper × List ℕ). t .1) (sym two-hits) ∙ h yard (built Y) (pt 150 150) 69 (replicate 5 7)))
+
+-- a list of searches
+pub search-all-not-refusing : ((g : Grid) (t : Tables) (ps : List Probe) (out ends : List ℕ) → searchesAll g t ps out ends .0 .number ≡ 0 → ⊥) → ⊥
+search-all-not-refusing h =
+    h yard (built Y) twoProbes (replicate 6 7) (replicate 3 7) (ap (λ (t : Paper × List ℕ × List ℕ). t .0 .number) two-lists)
+
+pub search-all-not-constant : (p : Paper) → ((g : Grid) (t : Tables) (ps : List Probe) (out ends : List ℕ) → searchesAll g t ps out ends .0 ≡ p) → ⊥
+search-all-not-constant p h =
+    two-papers {a = says 0 (5 ∷ [])} {b = says 1 (0 ∷ [])} (omega arith)
+    (ap (λ (t : Paper × List ℕ × List ℕ). t .0) (sym two-lists) ∙ h yard (built Y) twoProbes (replicate 6 7) (replicate 3 7))
+    (sym (all-nowhere (built Y) [] [] []) ∙ h nowhere (built Y) [] [] [])
+
+pub search-all-not-idle : ((g : Grid) (t : Tables) (ps : List Probe) (out ends : List ℕ) → searchesAll g t ps out ends .1 ≡ out) → ⊥
+search-all-not-idle h =
+    absurd-number {k = 0} {m = 7} (omega arith)
+    (ap (λ (l : List ℕ). getD l 0 1)
+    (ap (λ (t : Paper × List ℕ × List ℕ). t .1) (sym two-lists) ∙ h yard (built Y) twoProbes (replicate 6 7) (replicate 3 7)))
+
+-- nor does one pass that leaves the ends alone
+pub search-all-not-endless : ((g : Grid) (t : Tables) (ps : List Probe) (out ends : List ℕ) → searchesAll g t ps out ends .2 ≡ ends) → ⊥
+search-all-not-endless h =
+    absurd-number {k = 2} {m = 7} (omega arith)
+    (ap (λ (l : List ℕ). getD l 0 1)
+    (ap (λ (t : Paper × List ℕ × List ℕ). t .2) (sym two-lists) ∙ h yard (built Y) twoProbes (replicate 6 7) (replicate 3 7)))
 
 -- the join
 pub join-not-refusing : ((g : Grid) (tr ts : Tables) (r : ℕ) (out : List ℕ) → joins g tr ts r out .0 .number ≡ 0 → ⊥) → ⊥
