@@ -2,14 +2,14 @@
  * Luvgarden from C and C++: what lies under a yard, searched so that nothing is missed.
  *
  * The caller owns all memory. A call reads and writes only what it is lent, keeps nothing when it returns and has no memory of its own but
- * some kilobytes of stack (a search the most: under ten).
+ * some kilobytes of stack (a search under ten, a list of searches the most: under thirty).
  * Nothing needs to be checked before a call: every number is judged, and tables of any origin are answered or refused.
  *
  * Every function returns a number of luv_refusal, LUV_ACCEPTED for none, and writes *value on every call, refused ones too:
  *     accepted         the count that the function names
  *     LUV_FOOTPRINT    the lowest bad footprint
  *     LUV_ROOM         the numbers needed, all of them and not only those that are missing
- *     other refusals   0
+ *     other refusals   0, but for luv_search_all_n the index of the probe that is refused
  * A refused call leaves all lent memory as it was (luv_ask_n says its one exception).
  *
  * A slice is a pointer and a length behind it. Pointers are never NULL, also for length 0. What a call writes (a slice that is not const, *value,
@@ -38,6 +38,7 @@ extern "C" {
 #define LUV_MOST_FOOTPRINTS 65536u   /* footprints in a register */
 #define LUV_MOST_ENTRIES 268435456u  /* entries that a run may end at: 65,536 footprints in 4,096 tiles */
 #define LUV_MOST_RADIUS 2097151u     /* radius of a search in centimetres; that of a join is at most side */
+#define LUV_MOST_PROBES 65536u       /* probes in a list of searches */
 
 /* ---- lengths, in numbers */
 
@@ -46,12 +47,12 @@ extern "C" {
 #define LUV_STARTS(n) ((size_t)16 * (n) * (n) + 1)                                      /* the starts, exactly */
 #define LUV_FRONT(footprints, n) ((size_t)3 * ((size_t)(footprints) + (size_t)(n) * (n) + 4))   /* the front of a walk, at least */
 
-/* ---- refusals, judged in the order 1, 2, 3, 4, 5, 7, 6 */
+/* ---- refusals, judged in the order 1, 2, 3, 4, 5, 7, 6 (luv_ask_n and luv_search_all_n say theirs) */
 
 enum luv_refusal {
     LUV_ACCEPTED = 0,
     LUV_SIZES = 1,      /* n or side outside its range */
-    LUV_LENGTHS = 2,    /* a register of no whole footprints or of too many, a wrong count of starts, a byte length off four */
+    LUV_LENGTHS = 2,    /* a register of no whole footprints or of too many, a wrong count of starts, too many probes, a byte length off four */
     LUV_FOOTPRINT = 3,  /* build and check: a footprint with lo > hi or hi off the grid; value: the lowest such number */
     LUV_PLACE = 4,      /* a point off the grid; for a run, no such tile or class */
     LUV_RADIUS = 5,     /* a search over LUV_MOST_RADIUS, a join over side */
@@ -137,6 +138,31 @@ uint32_t luv_search_n(uint32_t n, uint32_t side,
                       uint32_t x, uint32_t y, uint32_t r,
                       uint32_t *out, size_t out_length,
                       uint64_t *value);
+
+/* A search of a list: its point (x, y) and its radius r. */
+struct luv_probe {
+    uint32_t x, y, r;
+};
+
+/*
+ * Searches for every probe of a list: writes their lists to out one behind the other, each as luv_search_n writes it; *value: the numbers
+ * written in all. ends[i] becomes the end of list i, its place in out: the list stands from ends[i-1], the first from 0, up to ends[i].
+ * probes_length counts probes, which are aligned as a uint32_t. Lend as many ends as probes. Output past the lists and ends past the probes
+ * stay as they were. Refusals, in this order:
+ *     1, 2     before any probe is looked at, so without probes too; 2 also for more than LUV_MOST_PROBES; *value: 0
+ *     4, 5, 7  the first probe in the list that luv_search_n would refuse so; *value: its index
+ *     6        out is shorter than all lists, *value: their numbers in all; then ends is shorter than the probes, *value: how many these are
+ * Without probes the tables' contents are not looked at. All probes are judged before anything is written: where the lists have over 4,096
+ * numbers in all, or there are over 512 probes, each is searched twice.
+ */
+uint32_t luv_search_all_n(uint32_t n, uint32_t side,
+                          const uint32_t *reg, size_t reg_length,
+                          const uint32_t *starts, size_t starts_length,
+                          const uint32_t *entries, size_t entries_length,
+                          const struct luv_probe *probes, size_t probes_length,
+                          uint32_t *out, size_t out_length,
+                          uint64_t *ends, size_t ends_length,
+                          uint64_t *value);
 
 /*
  * Starts a walk outward from the point (x, y); *value: 0. The front is the walk's memory: lend at least LUV_FRONT(footprints, n) numbers,

@@ -7,10 +7,12 @@ use lib.ListN.{length}
 use Rattle.rules.specs.Tables.{Tables}
 use Rattle.rules.specs.Build.{builds, checks, runEnds}
 use Rattle.rules.specs.Search.{searches}
+use Rattle.rules.specs.Probes.{searchesAll}
 use Rattle.rules.specs.Join.{joins}
 use Rattle.rules.specs.Walk.{begun, asks}
 use Rattle.rules.specs.declared.Grid.{Grid}
 use Rattle.rules.specs.declared.Point.{Point}
+use Rattle.rules.specs.declared.Probe.{Probe}
 use Rattle.outward.specs.Outward.{told, outward, outward₁, outward₂, outwardRun, State, walkOf, outwardStart, outwardAsk}
 use Rattle.outward.specs.declared.Told.{Told}
 
@@ -44,7 +46,7 @@ module _ (k k′ v v′ : ℕ) where
       let t = same-told (ap (λ (x : Told × A × B × C). x .0) e) in
       (t .0, t .1, ap (λ (x : Told × A × B × C). x .1) e, ap (λ (x : Told × A × B × C). x .2) e, ap (λ (x : Told × A × B × C). x .3) e)
 
-  -- ---- the seven functions on number slices
+  -- ---- the eight functions on number slices
 
   module _ (g : Grid) where
     pub one-build-n : (reg starts entries s s′ e e′ : List ℕ) → (told k v, s, e) ≡ outward₂ (builds g reg starts entries)
@@ -62,6 +64,10 @@ module _ (k k′ v v′ : ℕ) where
     pub one-search-n : (t : Tables) (q : Point) (r : ℕ) (out o o′ : List ℕ) → (told k v, o) ≡ outward₁ (searches g t q r out)
         → (told k′ v′, o′) ≡ outward₁ (searches g t q r out) → (k ≡ k′) × (v ≡ v′) × (o ≡ o′)
     one-search-n t q r out o o′ = one-told₁ o o′ (outward₁ (searches g t q r out))
+
+    pub one-search-all-n : (t : Tables) (ps : List Probe) (out ends o o′ e e′ : List ℕ) → (told k v, o, e) ≡ outward₂ (searchesAll g t ps out ends)
+        → (told k′ v′, o′, e′) ≡ outward₂ (searchesAll g t ps out ends) → (k ≡ k′) × (v ≡ v′) × (o ≡ o′) × (e ≡ e′)
+    one-search-all-n t ps out ends o o′ e e′ = one-told₂ o o′ e e′ (outward₂ (searchesAll g t ps out ends))
 
     pub one-start-n : (t : Tables) (q : Point) (front : List ℕ) (s s′ : State) (f f′ : List ℕ) → (told k v, s, f) ≡ outwardStart (begun g t q front)
         → (told k′ v′, s′, f′) ≡ outwardStart (begun g t q front) → (k ≡ k′) × (v ≡ v′) × (s ≡ s′) × (f ≡ f′)

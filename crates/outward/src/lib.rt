@@ -2,10 +2,11 @@
 
 use rules::Answer;
 use rules::Checked;
+use rules::Listed;
 use rules::Refusal;
 use rules::Walk;
 ghost use mathlib.Core.Path.{_≡_};
-ghost use Rattle.rules.specs.Refusals.{paper, paperAnswer, paperChecked};
+ghost use Rattle.rules.specs.Refusals.{paper, paperAnswer, paperListed, paperChecked};
 ghost use Rattle.outward.specs.Outward.{outward, markNo, walkOf};
 
 // An answer as C has it.
@@ -64,6 +65,26 @@ pub fn told_answer(a: Answer) -> Told
             value: v,
         },
         Answer::Refused(r) => told_refusal(r),
+    }
+}
+
+// The number of a list of searches, and its value: of a refusal that a probe meets, the probe's index.
+pub fn told_listed(a: Listed) -> Told
+    ensures { λ t. ⌜ t ≡ outward (paperListed a) ⌝ }
+{
+    match a {
+        Listed::Done(v) => Told {
+            number: 0,
+            value: v,
+        },
+        Listed::At(why, i) => {
+            let t: Told = told_refusal(why);
+            Told {
+                number: t.number,
+                value: i as u64,
+            }
+        }
+        Listed::Refused(why) => told_refusal(why),
     }
 }
 

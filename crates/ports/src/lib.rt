@@ -3,11 +3,13 @@
 
 use rules::Ends;
 use rules::Grid;
+use rules::Probe;
 ghost use mathlib.Core.Path.{_≡_};
 ghost use lib.ListN.{length};
 ghost use Rattle.rules.specs.Build.{builds, checks, runEnds};
 ghost use Rattle.rules.specs.Join.{joins};
 ghost use Rattle.rules.specs.Search.{searches};
+ghost use Rattle.rules.specs.Probes.{searchesAll};
 ghost use Rattle.rules.specs.Tables.{tables};
 ghost use Rattle.rules.specs.Walk.{asks, begun};
 ghost use Rattle.outward.specs.Outward.{told as toldIs, outward, outward₁, outward₂, outwardRun, outwardStart, outwardAsk, walkOf};
@@ -97,6 +99,36 @@ pub extern "C" fn luv_search_n(
     let found = outward::told_answer(search::search(g, reg, starts, entries, x, y, r, out));
     *value = found.value;
     found.number
+}
+
+// Writes the radius lists of all probes one behind the other, and each list's end; value: the numbers written, or the index of the probe that is
+// refused, 0 where the sizes or the lengths are, or the room needed.
+#[no_mangle]
+pub extern "C" fn luv_search_all_n(
+    n: u32,
+    side: u32,
+    reg: &[u32],
+    starts: &[u32],
+    entries: &[u32],
+    probes: &[Probe],
+    out: &mut [u32],
+    ends: &mut [u64],
+    value: &mut u64,
+) -> u32
+    ensures { λ k. ⌜ (toldIs k (now (value .exit)), now (out .exit), now (ends .exit)) ≡ outward₂ (searchesAll (record { n = n; side = side }) (tables (now (reg .entry)) (now (starts .entry)) (now (entries .entry))) (now (probes .entry)) (now (out .entry)) (now (ends .entry))) ⌝ }
+{
+    let g = Grid { n, side };
+    let listed = outward::told_listed(probes::search_all(
+        g,
+        reg,
+        starts,
+        entries,
+        probes,
+        out,
+        ends,
+    ));
+    *value = listed.value;
+    listed.number
 }
 
 // Begins a walk from x, y, and hands back its state; value: 0, or what the refusal names.
