@@ -3,9 +3,9 @@
  * output: the format of the program replay, without its limit on tables.
  *
  * A call is its code and its parameters; a table is its length and its numbers. The answer is the refusal's number, 0 for accepted, and the
- * value, then every lent output table and state as it is afterwards. Codes 1 to 7 are build, check, run, search, start, ask and join on
- * numbers; 11, 12 and 14 are build, check and search on bytes; 23 is a run whose entries are a length alone, and its answer ends with where
- * the part begins. What is no such call, or has no memory, prints "stop" and ends.
+ * value, then every lent output table and state as it is afterwards. Codes 1 to 8 are build, check, run, search, start, ask, join and a list of
+ * searches on numbers, whose probes are a table of three numbers a probe; 11, 12 and 14 are build, check and search on bytes; 23 is a run whose
+ * entries are a length alone, and its answer ends with where the part begins. What is no such call, or has no memory, prints "stop" and ends.
  */
 #define _DEFAULT_SOURCE
 #include <stdint.h>
@@ -306,6 +306,47 @@ static void join(uint32_t n, uint32_t side)
     free(out.numbers);
 }
 
+/* probes and how many they are */
+struct probes {
+    struct luv_probe *numbers;
+    size_t length;
+};
+
+/* the probes of a table that has three numbers for each */
+static struct probes next_probes(void)
+{
+    struct probes list;
+    struct words table = next_words();
+    if (table.length % 3 != 0)
+        stop();
+    list.length = table.length / 3;
+    list.numbers = memory(list.length, sizeof *list.numbers);
+    for (size_t i = 0; i < list.length; i++) {
+        list.numbers[i].x = table.numbers[3 * i];
+        list.numbers[i].y = table.numbers[3 * i + 1];
+        list.numbers[i].r = table.numbers[3 * i + 2];
+    }
+    free(table.numbers);
+    return list;
+}
+
+static void search_all(uint32_t n, uint32_t side)
+{
+    struct tables t = next_tables();
+    struct probes probes = next_probes();
+    struct words out = next_words();
+    struct longs ends = next_longs();
+    uint64_t value = UNWRITTEN;
+    uint32_t refusal = luv_search_all_n(n, side, TABLES(t), SLICE(probes), SLICE(out), SLICE(ends), &value);
+    put_answer(refusal, value);
+    put_words(out);
+    put_longs(ends);
+    free_tables(t);
+    free(probes.numbers);
+    free(out.numbers);
+    free(ends.numbers);
+}
+
 /* a run among so many entries, which are zeros that cost no memory and cannot be written */
 static void long_run(uint32_t n, uint32_t side)
 {
@@ -425,6 +466,7 @@ static call *call_of(uint64_t code)
     case 5: return start;
     case 6: return ask;
     case 7: return join;
+    case 8: return search_all;
     case 11: return build_bytes;
     case 12: return check_bytes;
     case 14: return search_bytes;

@@ -1,9 +1,11 @@
 //! Calls: each public function with all that is lent to it, as the numbers that `replay` reads, and the numbers that it must answer.
-//! Codes 1 to 7 are `replay`'s. Codes 11, 12, 14 (byte doors) and 23 (a run over entries of a length alone) are for the C driver.
+//! Codes 1 to 7 are `replay`'s. Codes 8 (a list of searches), 11, 12, 14 (byte doors) and 23 (a run over entries of a length alone) are for the C
+//! driver.
 
 use crate::bytes::{self, ByteTables};
 use crate::index;
 use crate::join;
+use crate::probes::{self, Probe, Refused};
 use crate::refusal::Refusal;
 use crate::search;
 use crate::sizes::Grid;
@@ -11,7 +13,8 @@ use crate::tables::{self, Tables};
 use crate::walk::{self, Walk};
 
 pub const REPLAY_CODES: [u64; 7] = [1, 2, 3, 4, 5, 6, 7];
-pub const ALL_CODES: [u64; 11] = [1, 2, 3, 4, 5, 6, 7, 11, 12, 14, 23];
+pub const LIST_CODES: [u64; 1] = [8];
+pub const ALL_CODES: [u64; 12] = [1, 2, 3, 4, 5, 6, 7, 8, 11, 12, 14, 23];
 
 /// The tables of a call as the caller owns them.
 #[derive(Clone, PartialEq, Eq, Debug)]
@@ -95,6 +98,12 @@ pub enum Asked {
         r: u32,
         out: Vec<u32>,
     },
+    SearchAll {
+        lent: Lent,
+        probes: Vec<Probe>,
+        out: Vec<u32>,
+        ends: Vec<u64>,
+    },
     BuildBytes {
         lent: LentBytes,
     },
@@ -139,6 +148,7 @@ impl Call {
             Asked::Start { .. } => 5,
             Asked::Ask { .. } => 6,
             Asked::Join { .. } => 7,
+            Asked::SearchAll { .. } => 8,
             Asked::BuildBytes { .. } => 11,
             Asked::CheckBytes { .. } => 12,
             Asked::SearchBytes { .. } => 14,
@@ -214,6 +224,15 @@ impl Call {
     fn run_for_driver(&mut self) -> Answer {
         let g = self.g;
         match &mut self.asked {
+            Asked::SearchAll {
+                lent,
+                probes,
+                out,
+                ends,
+            } => {
+                let result = probes::search_all(&lent.tables(g), probes, out, ends);
+                answered_list(result).table(out).table(ends)
+            }
             Asked::BuildBytes { lent } => {
                 let result = bytes::build(g, &lent.reg, &mut lent.starts, &mut lent.entries);
                 answered(result).table(&lent.starts).table(&lent.entries)
@@ -245,6 +264,7 @@ impl Call {
             Asked::Search { out, .. } | Asked::Join { out, .. } => out.len(),
             Asked::Start { front, .. } => 4 + front.len(),
             Asked::Ask { front, out, .. } => 4 + front.len() + out.len(),
+            Asked::SearchAll { out, ends, .. } => out.len() + ends.len(),
             Asked::BuildBytes { lent } => lent.starts.len() + lent.entries.len(),
             Asked::SearchBytes { out, .. } => out.len(),
         };
@@ -277,6 +297,16 @@ fn answered(result: Result<u64, Refusal>) -> Answer {
         Ok(value) => vec![0, value],
         Err(refusal) => vec![refusal.number(), refusal.value()],
     };
+    Answer { result, numbers }
+}
+
+/// The same for a list of searches, whose refusals tell an index.
+fn answered_list(result: Result<u64, Refused>) -> Answer {
+    let numbers = match result {
+        Ok(value) => vec![0, value],
+        Err(refused) => vec![refused.why.number(), refused.value],
+    };
+    let result = result.map_err(|refused| refused.why);
     Answer { result, numbers }
 }
 

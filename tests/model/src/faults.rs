@@ -23,7 +23,7 @@ fn fault(refusal: u64, change: fn(&mut Call)) -> Fault {
     Fault { refusal, change }
 }
 
-/// The tables of a call; of a join those of R. A run's are its starts and entries alone.
+/// The tables of a call; of a join those of R. A list of searches has its point and radius faults in its first probe. A run's are its starts and entries alone.
 fn starts_of(call: &mut Call) -> &mut Vec<u32> {
     match &mut call.asked {
         Asked::Run { starts, .. } => starts,
@@ -42,6 +42,7 @@ fn lent_of(asked: &mut Asked) -> &mut Lent {
     match asked {
         Asked::Build { lent } | Asked::Check { lent } => lent,
         Asked::Search { lent, .. } | Asked::Start { lent, .. } | Asked::Ask { lent, .. } => lent,
+        Asked::SearchAll { lent, .. } => lent,
         Asked::Join { r_lent, .. } => r_lent,
         _ => unreachable!("faults are for calls on number tables with a register"),
     }
@@ -61,6 +62,7 @@ fn reg_of(call: &mut Call) -> &mut Vec<u32> {
 fn set_x(call: &mut Call, to: u32) {
     match &mut call.asked {
         Asked::Search { x, .. } | Asked::Start { x, .. } | Asked::Ask { x, .. } => *x = to,
+        Asked::SearchAll { probes, .. } => probes[0].x = to,
         _ => unreachable!("the call has no point"),
     }
 }
@@ -68,6 +70,7 @@ fn set_x(call: &mut Call, to: u32) {
 fn set_y(call: &mut Call, to: u32) {
     match &mut call.asked {
         Asked::Search { y, .. } | Asked::Start { y, .. } | Asked::Ask { y, .. } => *y = to,
+        Asked::SearchAll { probes, .. } => probes[0].y = to,
         _ => unreachable!("the call has no point"),
     }
 }
@@ -75,6 +78,7 @@ fn set_y(call: &mut Call, to: u32) {
 fn set_r(call: &mut Call, to: u32) {
     match &mut call.asked {
         Asked::Search { r, .. } | Asked::Join { r, .. } => *r = to,
+        Asked::SearchAll { probes, .. } => probes[0].r = to,
         _ => unreachable!("the call has no radius"),
     }
 }
@@ -89,6 +93,7 @@ fn shorten_room(call: &mut Call) {
     match &mut call.asked {
         Asked::Build { lent } => shorten(&mut lent.entries),
         Asked::Search { out, .. } | Asked::Join { out, .. } => shorten(out),
+        Asked::SearchAll { out, .. } => shorten(out),
         Asked::Start { front, .. } => shorten(front),
         Asked::Ask { j, out, .. } => out.truncate(2 * *j as usize - 1),
         _ => unreachable!("the call needs no room"),
@@ -143,6 +148,16 @@ fn points() -> Vec<Fault> {
 
 fn rooms() -> Vec<Fault> {
     vec![fault(6, shorten_room)]
+}
+
+fn ends_rooms() -> Vec<Fault> {
+    fn shorten_ends(call: &mut Call) {
+        match &mut call.asked {
+            Asked::SearchAll { ends, .. } => shorten(ends),
+            _ => unreachable!("only a list of searches has ends"),
+        }
+    }
+    vec![fault(6, shorten_ends)]
 }
 
 /// Starts that damage the first run.
@@ -254,6 +269,17 @@ pub fn of_code(code: u64) -> Vec<Fault> {
             bad_ends(),
             bad_entries(),
             rooms(),
+        ],
+        8 => vec![
+            sizes(),
+            register_length(),
+            starts_length(),
+            points(),
+            radius,
+            bad_ends(),
+            bad_entries(),
+            rooms(),
+            ends_rooms(),
         ],
         5 => vec![
             sizes(),

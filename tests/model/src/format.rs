@@ -1,7 +1,8 @@
 //! The format of `replay`: decimal numbers, each followed by LF. Calls are written and read here; what is no call stops the reading.
 
 use crate::call::{Answer, Asked, Call, Lent, LentBytes, ALL_CODES, REPLAY_CODES};
-use crate::sizes::Grid;
+use crate::probes::Probe;
+use crate::sizes::{Grid, NUMBERS_A_PROBE};
 use std::fmt::Write;
 
 /// What a program that speaks the format takes: its longest table and its codes.
@@ -45,6 +46,12 @@ fn push_bytes(numbers: &mut Vec<u64>, lent: &LentBytes) {
     push_table(numbers, &lent.reg);
     push_table(numbers, &lent.starts);
     push_table(numbers, &lent.entries);
+}
+
+/// A list of probes as a table of numbers, three a probe.
+fn probe_numbers(probes: &[Probe]) -> Vec<u32> {
+    let numbers = |probe: &Probe| [probe.x, probe.y, probe.r];
+    probes.iter().flat_map(numbers).collect()
 }
 
 fn push_all(numbers: &mut Vec<u64>, several: &[u32]) {
@@ -104,6 +111,17 @@ pub fn call_numbers(call: &Call) -> Vec<u64> {
             push_lent(&mut to, s_lent);
             push_all(&mut to, &[*r]);
             push_table(&mut to, out);
+        }
+        Asked::SearchAll {
+            lent,
+            probes,
+            out,
+            ends,
+        } => {
+            push_lent(&mut to, lent);
+            push_table(&mut to, &probe_numbers(probes));
+            push_table(&mut to, out);
+            push_table(&mut to, ends);
         }
         Asked::BuildBytes { lent } | Asked::CheckBytes { lent } => push_bytes(&mut to, lent),
         Asked::SearchBytes { lent, x, y, r, out } => {
@@ -184,6 +202,20 @@ impl<'a> Reader<'a> {
         self.table(|reader| Ok(reader.number(u64::from(u8::MAX))? as u8))
     }
 
+    /// A table of three numbers a probe; a length off three stops.
+    fn probes(&mut self) -> Result<Vec<Probe>, Stop> {
+        let numbers = self.numbers()?;
+        if !numbers.len().is_multiple_of(NUMBERS_A_PROBE) {
+            return Err(Stop);
+        }
+        let probe = |three: &[u32]| Probe {
+            x: three[0],
+            y: three[1],
+            r: three[2],
+        };
+        Ok(numbers.chunks(NUMBERS_A_PROBE).map(probe).collect())
+    }
+
     fn lent(&mut self) -> Result<Lent, Stop> {
         Ok(Lent {
             reg: self.numbers()?,
@@ -245,6 +277,12 @@ impl<'a> Reader<'a> {
 
     fn asked_of_driver(&mut self, code: u64) -> Result<Asked, Stop> {
         Ok(match code {
+            8 => Asked::SearchAll {
+                lent: self.lent()?,
+                probes: self.probes()?,
+                out: self.numbers()?,
+                ends: self.long_numbers()?,
+            },
             11 => Asked::BuildBytes {
                 lent: self.lent_bytes()?,
             },

@@ -5,13 +5,14 @@ use crate::call::{Asked, Call, Lent, LentBytes};
 use crate::fronts;
 use crate::index::entry_count;
 use crate::join::join;
+use crate::probes::{search_all, Probe};
 use crate::random::Random;
 use crate::refusal::Refusal;
 use crate::register::lowest_bad;
 use crate::search::search;
 use crate::sizes::{
-    Grid, CLASSES, ENTRIES_MOST, FOOTPRINTS_MOST, NUMBERS_A_FOOTPRINT, RADIUS_MOST, SIDE_MOST,
-    TILES_MOST,
+    Grid, CLASSES, ENTRIES_MOST, FOOTPRINTS_MOST, NUMBERS_A_FOOTPRINT, NUMBERS_A_PROBE,
+    PROBES_MOST, RADIUS_MOST, SIDE_MOST, TILES_MOST,
 };
 use crate::walk::start_need;
 use crate::yards::{self, Limits};
@@ -27,6 +28,7 @@ pub fn random_call(random: &mut Random, limits: &Limits, codes: &[u64]) -> Call 
         5 => start(random, g, &limits.for_walks()),
         6 => ask(random, g, &limits.for_walks()),
         7 => join_call(random, g, limits),
+        8 => search_all_call(random, g, limits),
         23 => long_run(random, g),
         code => as_bytes(random, g, limits, code),
     };
@@ -168,6 +170,63 @@ fn search_call(random: &mut Random, g: Grid, limits: &Limits) -> Asked {
     Asked::Search { lent, x, y, r, out }
 }
 
+/// How many probes a list has: none, one, few, and at times scores or hundreds.
+fn probes_wanted(random: &mut Random) -> usize {
+    match random.below(12) {
+        0 => 0,
+        1 => 1,
+        2 => 60 + random.place(10),
+        3 => random.place(300),
+        _ => 2 + random.place(8),
+    }
+}
+
+/// The next probe of a list: one that stands there already, or a new one.
+fn next_probe(random: &mut Random, g: Grid, reg: &[u32], before: &[Probe]) -> Probe {
+    if !before.is_empty() && random.chance(15) {
+        return random.pick(before);
+    }
+    let (x, y) = yards::point(random, g, reg);
+    let r = yards::radius(random, g, reg, x, y);
+    Probe { x, y, r }
+}
+
+/// Makes a probe one that is refused.
+fn spoil_probe(random: &mut Random, g: Grid, probes: &mut [Probe]) {
+    let place = random.place(probes.len());
+    let probe = &mut probes[place];
+    match random.below(4) {
+        0 => fault_in_point(random, g, &mut probe.x),
+        1 => fault_in_point(random, g, &mut probe.y),
+        _ => fault_in_radius(random, &mut probe.r, RADIUS_MOST),
+    }
+}
+
+fn search_all_call(random: &mut Random, g: Grid, limits: &Limits) -> Asked {
+    let lent = any_or_fair(random, g, limits);
+    let mut probes = Vec::new();
+    for _ in 0..probes_wanted(random).min(limits.table_most / NUMBERS_A_PROBE) {
+        probes.push(next_probe(random, g, &lent.reg, &probes));
+    }
+    for _ in 0..random.pick(&[0, 0, 0, 0, 0, 1, 2]) {
+        if !probes.is_empty() {
+            spoil_probe(random, g, &mut probes);
+        }
+    }
+    let listed = search_all(&lent.tables(g), &probes, &mut [], &mut []);
+    let need = needed(listed.map_err(|refused| refused.why));
+    let length = room(random, need, limits);
+    let out = random.wild_table(length);
+    let ends_length = room(random, probes.len() as u64, limits);
+    let ends = random.wild_long_table(ends_length);
+    Asked::SearchAll {
+        lent,
+        probes,
+        out,
+        ends,
+    }
+}
+
 fn start(random: &mut Random, g: Grid, limits: &Limits) -> Asked {
     let lent = any_or_fair(random, g, limits);
     let (x, y) = yards::point(random, g, &lent.reg);
@@ -300,7 +359,7 @@ fn fault_in_tiles(random: &mut Random, call: &mut Call) {
     match &mut call.asked {
         Asked::Build { lent } | Asked::Check { lent } => lent.starts.truncate(1),
         Asked::Search { lent, .. } | Asked::Start { lent, .. } => lent.starts.truncate(1),
-        Asked::Ask { lent, .. } => lent.starts.truncate(1),
+        Asked::Ask { lent, .. } | Asked::SearchAll { lent, .. } => lent.starts.truncate(1),
         Asked::Run { starts, .. } => starts.truncate(1),
         _ => {}
     }
@@ -351,6 +410,19 @@ fn fault_in_radius(random: &mut Random, r: &mut u32, most: u32) {
     };
 }
 
+/// More probes than a list may have, where a table may be so long; else a fault in one of them.
+fn fault_in_probes(random: &mut Random, g: Grid, probes: &mut Vec<Probe>, limits: &Limits) {
+    let Some(&last) = probes.last() else {
+        return;
+    };
+    let many = PROBES_MOST + 1;
+    if random.chance(10) && many * NUMBERS_A_PROBE <= limits.table_most {
+        probes.resize(many, last);
+    } else {
+        spoil_probe(random, g, probes);
+    }
+}
+
 /// Adds a fault that may bring a refusal, or hide behind an earlier one.
 fn add_fault(random: &mut Random, call: &mut Call, limits: &Limits) {
     match random.below(20) {
@@ -379,6 +451,8 @@ fn add_fault(random: &mut Random, call: &mut Call, limits: &Limits) {
         (Asked::Search { lent, .. } | Asked::Start { lent, .. } | Asked::Ask { lent, .. }, _) => {
             fault_in_lent(random, g, lent, limits)
         }
+        (Asked::SearchAll { probes, .. }, 0 | 1) => fault_in_probes(random, g, probes, limits),
+        (Asked::SearchAll { lent, .. }, _) => fault_in_lent(random, g, lent, limits),
         (Asked::Join { r, .. }, 0) => fault_in_radius(random, r, g.side.min(SIDE_MOST)),
         (Asked::Join { r_lent, .. }, 1) => fault_in_lent(random, g, r_lent, limits),
         (Asked::Join { s_lent, .. }, _) => fault_in_lent(random, g, s_lent, limits),

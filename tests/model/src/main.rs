@@ -1,4 +1,4 @@
-//! The independent model of document 01 and its commands. See README.md.
+//! The independent model of document 01, and of the tickets of document 02 that have landed, and its commands. See README.md.
 
 mod brute;
 mod bytes;
@@ -14,7 +14,9 @@ mod groups;
 mod hostile;
 mod index;
 mod join;
+mod lists;
 mod options;
+mod probes;
 mod random;
 mod reach;
 mod refusal;
@@ -39,16 +41,17 @@ use std::process::ExitCode;
 use std::sync::Arc;
 
 const USAGE: &str =
-    "model vectors | answers | stored COMMAND.. | compare COMMAND.. | stops COMMAND.. \
+    "model vectors | answers | stored COMMAND.. | long COMMAND.. | compare COMMAND.. | stops COMMAND.. \
 | texts COMMAND.. | text | self | reach | calls; see README.md";
 
 fn main() -> ExitCode {
     let mut words = std::env::args().skip(1);
     let name = words.next().unwrap_or_default();
     let done = Options::read(words).and_then(|options| match name.as_str() {
-        "vectors" => vectors(),
+        "vectors" => vectors(&options),
         "answers" => answers(&options),
-        "stored" => told(Arc::new(stored::calls()), &options),
+        "stored" => told(Arc::new(options.stored()), &options),
+        "long" => told(Arc::new(lists::long()), &options),
         "compare" => told(options.plan(), &options),
         "stops" => stops(&options),
         "texts" => texts(&options),
@@ -84,8 +87,8 @@ fn input() -> Result<Vec<u8>, String> {
 }
 
 /// Prints the stored set of calls.
-fn vectors() -> Done {
-    let all: String = stored::calls().iter().map(format::call_text).collect();
+fn vectors(options: &Options) -> Done {
+    let all: String = options.stored().iter().map(format::call_text).collect();
     print(all.as_bytes())
 }
 
@@ -150,8 +153,12 @@ fn texts(options: &Options) -> Done {
     compare_inputs(options, "texts", texts::sheet, text::printed)
 }
 
-/// Compares `replay` on broken inputs.
+/// Compares `replay` on broken inputs, or the driver on those of lists of searches.
 fn stops(options: &Options) -> Done {
+    if options.codes == call::LIST_CODES {
+        let expect = |input: &[u8]| format::replayed(input, format::DRIVER);
+        return compare_inputs(options, "inputs", texts::stopped_list, expect);
+    }
     let expect = |input: &[u8]| format::replayed(input, format::REPLAY);
     compare_inputs(options, "inputs", texts::stopped, expect)
 }

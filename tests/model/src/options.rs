@@ -1,9 +1,11 @@
 //! The options of the commands: `--name number` before the other words.
 
-use crate::call::REPLAY_CODES;
+use crate::call::{Call, LIST_CODES, REPLAY_CODES};
 use crate::compare::Plan;
 use crate::format::{Takes, DRIVER, REPLAY};
+use crate::lists;
 use crate::sizes::{CLASSES, FOOTPRINTS_MOST, TILES_MOST};
+use crate::stored;
 use crate::yards::Limits;
 use std::ops::Range;
 
@@ -106,6 +108,15 @@ impl Options {
             places: self.places(),
             limits: self.limits(),
             codes: self.codes.clone(),
+        }
+    }
+
+    /// The stored set: the lists of searches, where they alone are asked for, else the calls of `replay`.
+    pub fn stored(&self) -> Vec<Call> {
+        if self.codes == LIST_CODES {
+            lists::calls()
+        } else {
+            stored::calls()
         }
     }
 

@@ -10,10 +10,25 @@ use std::collections::BTreeMap;
 pub fn ending(call: &Call, answer: &Answer) -> String {
     let how = match answer.result {
         Ok(value) => format!("{}{}", accepted(call, value), origin(call)),
-        Err(Refusal::Damaged(damage)) => format!("7 {damage:?}"),
-        Err(refusal) => refusal.number().to_string(),
+        Err(refusal) => format!("{}{}", refused(refusal), whose(call, answer)),
     };
     format!("{} {}", call.code(), how)
+}
+
+fn refused(refusal: Refusal) -> String {
+    match refusal {
+        Refusal::Damaged(damage) => format!("7 {damage:?}"),
+        Refusal::EndsRoom(_) => "6 ends".to_string(),
+        other => other.number().to_string(),
+    }
+}
+
+/// Where a list of searches is refused for a probe that is not its first.
+fn whose(call: &Call, answer: &Answer) -> &'static str {
+    match (&call.asked, &answer.numbers[..]) {
+        (Asked::SearchAll { .. }, [number, index, ..]) if *number != 6 && *index > 0 => " later",
+        _ => "",
+    }
 }
 
 fn accepted(call: &Call, value: u64) -> &'static str {
@@ -23,6 +38,7 @@ fn accepted(call: &Call, value: u64) -> &'static str {
         Asked::Start { .. } => "accepted",
         Asked::Ask { j: 0, .. } => "none asked",
         Asked::Ask { j, .. } if value < u64::from(*j) => "short",
+        Asked::SearchAll { probes, .. } if probes.is_empty() => "no probes",
         _ if value == 0 => "none",
         _ => "some",
     }
@@ -43,6 +59,7 @@ fn origin(call: &Call) -> &'static str {
     let g = call.g;
     let built = match &call.asked {
         Asked::Search { lent, .. } | Asked::Start { lent, .. } => is_built(g, lent),
+        Asked::SearchAll { lent, .. } => is_built(g, lent),
         Asked::Ask {
             lent,
             front,
@@ -71,6 +88,13 @@ const ENTRY_DAMAGE: [&str; 4] = [
     "7 EntryBad",
 ];
 
+const LATER_DAMAGE: [&str; 4] = [
+    "7 StartBelow later",
+    "7 EndBeyond later",
+    "7 EntryNotBelow later",
+    "7 EntryBad later",
+];
+
 const ASK_DAMAGE: [&str; 7] = [
     "7 Mark",
     "7 WaitingBeyond",
@@ -90,6 +114,24 @@ fn of_code(code: u64) -> Vec<&'static str> {
         4 => (
             &["none", "some", "some foreign", "1", "2", "4", "5", "6"],
             ENTRY_DAMAGE.to_vec(),
+        ),
+        8 => (
+            &[
+                "no probes",
+                "no probes foreign",
+                "none",
+                "some",
+                "some foreign",
+                "1",
+                "2",
+                "4",
+                "4 later",
+                "5",
+                "5 later",
+                "6",
+                "6 ends",
+            ],
+            [&ENTRY_DAMAGE[..], &LATER_DAMAGE[..]].concat(),
         ),
         14 => (
             &["none", "some", "1", "2", "4", "5", "6"],

@@ -1,7 +1,7 @@
 //! Refusals: their numbers and values, why damage was met, and the judgements that more than one call makes.
 
 use crate::register::{footprint_count, lowest_bad};
-use crate::sizes::{Grid, FOOTPRINTS_MOST, NUMBERS_A_FOOTPRINT};
+use crate::sizes::{Grid, FOOTPRINTS_MOST, NUMBERS_A_FOOTPRINT, PROBES_MOST};
 
 /// What was damaged. The rules know only number 7; the kind tells which branches a set of calls reaches.
 #[derive(Clone, Copy, PartialEq, Eq, PartialOrd, Ord, Debug)]
@@ -20,7 +20,7 @@ pub enum Damage {
     RowRoom,
 }
 
-/// A refusal of document 01 with the value that it returns.
+/// A refusal of document 01 with the value that it returns. Room for the ends of a list of searches stands apart, to tell which calls reach it.
 #[derive(Clone, Copy, PartialEq, Eq, PartialOrd, Ord, Debug)]
 pub enum Refusal {
     Sizes,
@@ -29,6 +29,7 @@ pub enum Refusal {
     Place,
     Radius,
     Room(u64),
+    EndsRoom(u64),
     Damaged(Damage),
     Text(u32),
 }
@@ -41,7 +42,7 @@ impl Refusal {
             Refusal::Footprint(_) => 3,
             Refusal::Place => 4,
             Refusal::Radius => 5,
-            Refusal::Room(_) => 6,
+            Refusal::Room(_) | Refusal::EndsRoom(_) => 6,
             Refusal::Damaged(_) => 7,
             Refusal::Text(_) => 8,
         }
@@ -51,7 +52,7 @@ impl Refusal {
     pub fn value(self) -> u64 {
         match self {
             Refusal::Footprint(number) => u64::from(number),
-            Refusal::Room(need) => need,
+            Refusal::Room(need) | Refusal::EndsRoom(need) => need,
             Refusal::Text(line) => u64::from(line),
             _ => 0,
         }
@@ -82,6 +83,10 @@ pub fn judge_starts(g: Grid, starts: &[u32]) -> Judged {
     refuse_if(starts.len() != g.starts_length(), Refusal::Lengths)
 }
 
+pub fn judge_probes(count: usize) -> Judged {
+    refuse_if(count > PROBES_MOST, Refusal::Lengths)
+}
+
 pub fn judge_footprints(g: Grid, reg: &[u32]) -> Judged {
     match lowest_bad(g, reg) {
         Some(number) => Err(Refusal::Footprint(number)),
@@ -99,4 +104,8 @@ pub fn judge_radius(r: u32, most: u32) -> Judged {
 
 pub fn judge_room(need: u64, lent: usize) -> Judged {
     refuse_if(need > lent as u64, Refusal::Room(need))
+}
+
+pub fn judge_ends(need: u64, lent: usize) -> Judged {
+    refuse_if(need > lent as u64, Refusal::EndsRoom(need))
 }

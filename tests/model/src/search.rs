@@ -26,12 +26,17 @@ fn hits(tables: &Tables, x: u32, y: u32, r: u32) -> Result<Vec<u32>, Damage> {
     Ok(found)
 }
 
-/// Writes the radius list to the output's beginning and gives its length.
-pub fn search(tables: &Tables, x: u32, y: u32, r: u32, out: &mut [u32]) -> Result<u64, Refusal> {
+/// The radius list, or why a search is refused, room apart.
+pub fn list(tables: &Tables, x: u32, y: u32, r: u32) -> Result<Vec<u32>, Refusal> {
     tables.judge()?;
     judge_point(tables.g, x, y)?;
     judge_radius(r, RADIUS_MOST)?;
-    let found = hits(tables, x, y, r).map_err(Refusal::Damaged)?;
+    hits(tables, x, y, r).map_err(Refusal::Damaged)
+}
+
+/// Writes the radius list to the output's beginning and gives its length.
+pub fn search(tables: &Tables, x: u32, y: u32, r: u32, out: &mut [u32]) -> Result<u64, Refusal> {
+    let found = list(tables, x, y, r)?;
     judge_room(found.len() as u64, out.len())?;
     out[..found.len()].copy_from_slice(&found);
     Ok(found.len() as u64)

@@ -5,6 +5,7 @@ use crate::call::Lent;
 use crate::groups::Centre;
 use crate::index;
 use crate::join::join;
+use crate::probes::{search_all, Probe};
 use crate::random::Random;
 use crate::refusal::Refusal;
 use crate::register::footprint_count;
@@ -53,6 +54,28 @@ pub fn check_search(tables: &Tables, (x, y): (u32, u32), r: u32) -> Found {
     if count > 0 {
         let short = search(tables, x, y, r, &mut out[1..]);
         same("short search", short, Err(Refusal::Room(count)))?;
+    }
+    Ok(())
+}
+
+/// A list of searches, with exact room and with one number more.
+pub fn check_lists(tables: &Tables, probes: &[Probe]) -> Found {
+    let mut declared = Vec::new();
+    let mut declared_ends = Vec::new();
+    for probe in probes {
+        declared.extend(brute::hits(tables.g, tables.reg, probe.x, probe.y, probe.r));
+        declared_ends.push(declared.len() as u64);
+    }
+    let total = declared.len() as u64;
+    for more in [0, 1] {
+        declared.resize(declared.len() + more, 7);
+        declared_ends.resize(declared_ends.len() + more, 7);
+        let mut out = vec![7; declared.len()];
+        let mut ends = vec![7; declared_ends.len()];
+        let listed = search_all(tables, probes, &mut out, &mut ends);
+        same("listed", listed, Ok(total))?;
+        same("lists", &out, &declared)?;
+        same("ends", &ends, &declared_ends)?;
     }
     Ok(())
 }
@@ -148,18 +171,21 @@ pub fn check_walk(random: &mut Random, tables: &Tables, (x, y): (u32, u32)) -> F
     way.ask(1)
 }
 
-/// All of one random yard: build, check, searches, a walk and joins.
+/// All of one random yard: build, check, searches, alone and in a list, a walk and joins.
 pub fn check_yard(random: &mut Random, limits: &Limits) -> Found {
     let g = yards::grid(random, limits);
     let lent = yards::fair_tables(random, g, limits);
     let other = yards::fair_tables(random, g, limits);
     let tables = lent.tables(g);
     check_build(g, &lent.reg, &lent)?;
+    let mut probes = Vec::new();
     for _ in 0..4 {
         let (x, y) = yards::point(random, g, &lent.reg);
         let r = yards::radius(random, g, &lent.reg, x, y);
         check_search(&tables, (x, y), r)?;
         check_walk(random, &tables, (x, y))?;
+        probes.push(Probe { x, y, r });
+        check_lists(&tables, &probes)?;
     }
     for r in [0, g.side, random.between(0, g.side)] {
         check_join(&tables, &other.tables(g), r)?;

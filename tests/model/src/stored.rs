@@ -412,7 +412,7 @@ fn refusals() -> Vec<Call> {
 }
 
 /// Pairs of the first faults of two refusals.
-fn pairs(faults: &[Fault]) -> Vec<(Fault, Fault)> {
+pub fn pairs(faults: &[Fault]) -> Vec<(Fault, Fault)> {
     let mut firsts: Vec<Fault> = Vec::new();
     for fault in faults {
         if firsts.iter().all(|first| first.refusal != fault.refusal) {
@@ -448,15 +448,17 @@ fn unread_damage() -> Vec<Call> {
 }
 
 /// Tables of another origin without damage: not from 0, one run with entries out of order, twice and in the wrong tile.
+pub fn foreign() -> Lent {
+    let mut other = lent(SMALL_GRID, &SMALL, &[]);
+    other.starts.fill(6);
+    other.starts[0] = 2;
+    other.entries = vec![9, 9, 4, 1, 1, 0, 9];
+    other
+}
+
+/// Every call on such tables.
 fn foreign_tables() -> Vec<Call> {
     let g = SMALL_GRID;
-    let foreign = || {
-        let mut other = lent(g, &SMALL, &[]);
-        other.starts.fill(6);
-        other.starts[0] = 2;
-        other.entries = vec![9, 9, 4, 1, 1, 0, 9];
-        other
-    };
     let small = || lent(g, &SMALL, &[]);
     let walk = Walk {
         x: 19,

@@ -1,7 +1,7 @@
-//! Random texts for the two programs: text registers, sound and broken, and broken inputs of `replay`.
+//! Random texts for the programs: text registers, sound and broken, and broken inputs of `replay` and of the driver.
 
-use crate::call::{Call, REPLAY_CODES};
-use crate::format::{call_text, REPLAY};
+use crate::call::{Asked, Call, LIST_CODES, REPLAY_CODES};
+use crate::format::{call_numbers, call_text, lines, REPLAY};
 use crate::hostile::random_call;
 use crate::random::Random;
 use crate::sizes::{Grid, RADIUS_MOST};
@@ -230,4 +230,45 @@ pub fn stopped(random: &mut Random) -> Vec<u8> {
     }
     text.extend(stopping(random));
     text
+}
+
+/// Where the length of the probes stands among the numbers of a list of searches: behind code, sizes and three tables.
+fn probes_place(call: &Call) -> usize {
+    let Asked::SearchAll { lent, .. } = &call.asked else {
+        unreachable!("only lists of searches come here")
+    };
+    let tables = [&lent.reg, &lent.starts, &lent.entries];
+    3 + tables.iter().map(|table| 1 + table.len()).sum::<usize>()
+}
+
+/// A list of searches whose table of probes is off three, by numbers more or less, or one that is cut short.
+fn off_three(random: &mut Random) -> Vec<u64> {
+    let call = random_call(random, &STOP_LIMITS, &LIST_CODES);
+    let mut numbers = call_numbers(&call);
+    let at = probes_place(&call);
+    let length = numbers[at];
+    let off = random.pick(&[1, 2]);
+    match random.below(3) {
+        0 if length > 0 => {
+            numbers[at] = length - off;
+            numbers.drain(at + 1..at + 1 + off as usize);
+        }
+        1 => numbers.truncate(1 + random.place(numbers.len() - 1)),
+        _ => {
+            numbers[at] = length + off;
+            let more = vec![0; off as usize];
+            numbers.splice(at + 1..at + 1, more);
+        }
+    }
+    numbers
+}
+
+/// A broken input of the driver: some whole lists of searches, then what is no such call.
+pub fn stopped_list(random: &mut Random) -> Vec<u8> {
+    let mut text = String::new();
+    for _ in 0..random.below(3) {
+        text.push_str(&call_text(&random_call(random, &STOP_LIMITS, &LIST_CODES)));
+    }
+    text.push_str(&lines(&off_three(random)));
+    text.into_bytes()
 }

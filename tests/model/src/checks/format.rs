@@ -53,6 +53,14 @@ fn broken_inputs_stop() {
 }
 
 #[test]
+fn broken_lists_stop() {
+    for place in 0..1_000 {
+        let text = texts::stopped_list(&mut Random::of_place(9, place));
+        assert!(replayed(&text, DRIVER).ends_with("stop\n"), "{place}");
+    }
+}
+
+#[test]
 fn no_input_is_no_call() {
     assert_eq!(replayed(b"", REPLAY), "");
     assert_eq!(replayed(b"7", REPLAY), "stop\n");

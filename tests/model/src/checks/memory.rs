@@ -1,14 +1,18 @@
 //! Memory after a refusal: all as it was lent, but for an ask that met damage. Damage that is not read is not met.
 
-use crate::call::{Asked, Call, REPLAY_CODES};
+use crate::call::{Asked, Call};
+use crate::checks::accepted;
 use crate::faults;
 use crate::format::{call_numbers, REPLAY};
 use crate::hostile::random_call;
 use crate::random::Random;
 use crate::refusal::{Damage, Refusal};
 use crate::sizes::CLASSES;
-use crate::stored::{self, accepted_calls, SMALL, SMALL_GRID};
+use crate::stored::{self, SMALL, SMALL_GRID};
 use crate::yards::Limits;
+
+/// Calls on number tables that are lent whole.
+const NUMBER_CODES: [u64; 8] = [1, 2, 3, 4, 5, 6, 7, 8];
 
 fn numbers<T: Copy + Into<u64>>(table: &[T]) -> Vec<u64> {
     table.iter().map(|&number| number.into()).collect()
@@ -35,7 +39,8 @@ fn as_lent(call: &Call) -> Vec<u64> {
             let state = vec![u64::from(*x), u64::from(*y), *waiting, mark];
             [state, front.clone(), out.clone()].concat()
         }
-        _ => unreachable!("only calls of replay come here"),
+        Asked::SearchAll { out, ends, .. } => [numbers(out), ends.clone()].concat(),
+        _ => unreachable!("only calls on numbers come here"),
     }
 }
 
@@ -70,7 +75,7 @@ fn check_refused(call: &Call) {
 
 #[test]
 fn refusals_leave_memory_as_it_was() {
-    for accepted in accepted_calls() {
+    for accepted in accepted() {
         for fault in faults::of_code(accepted.code()) {
             check_refused(&fault.put(&accepted));
         }
@@ -82,7 +87,7 @@ fn refusals_leave_memory_as_it_was() {
     };
     for place in 0..3_000 {
         let mut random = Random::of_place(11, place);
-        check_refused(&random_call(&mut random, &limits, &REPLAY_CODES));
+        check_refused(&random_call(&mut random, &limits, &NUMBER_CODES));
     }
 }
 

@@ -3,6 +3,7 @@
 mod bytes;
 mod format;
 mod memory;
+mod probes;
 mod refusals;
 mod rules;
 mod starred;
@@ -10,3 +11,12 @@ mod stored;
 mod texts;
 mod walks;
 mod yards;
+
+use crate::call::Call;
+use crate::lists;
+use crate::stored::accepted_calls;
+
+/// A call of each code on numbers that is accepted, its room an exact fit.
+fn accepted() -> Vec<Call> {
+    [accepted_calls(), vec![lists::accepted()]].concat()
+}

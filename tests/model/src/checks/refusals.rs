@@ -1,12 +1,13 @@
 //! Every fault alone brings its refusal, and of two the one that is judged first.
 
 use crate::call::Call;
+use crate::checks::accepted;
 use crate::faults;
 use crate::format::call_numbers;
 use crate::index::{build, check};
 use crate::refusal::Refusal;
 use crate::sizes::Grid;
-use crate::stored::{accepted_calls, SMALL, SMALL_GRID};
+use crate::stored::{SMALL, SMALL_GRID};
 use crate::tables::run;
 
 /// The order in which refusals are judged.
@@ -28,14 +29,14 @@ fn refusal_of(call: &Call) -> u64 {
 
 #[test]
 fn the_calls_without_faults_are_accepted() {
-    for call in accepted_calls() {
+    for call in accepted() {
         assert_eq!(refusal_of(&call), 0, "code {}", call.code());
     }
 }
 
 #[test]
 fn a_fault_alone_brings_its_refusal() {
-    for accepted in accepted_calls() {
+    for accepted in accepted() {
         for (place, fault) in faults::of_code(accepted.code()).iter().enumerate() {
             let call = fault.put(&accepted);
             let told = format!("code {}, fault {place}", call.code());
@@ -46,7 +47,7 @@ fn a_fault_alone_brings_its_refusal() {
 
 #[test]
 fn of_two_faults_the_first_judged_is_told() {
-    for accepted in accepted_calls() {
+    for accepted in accepted() {
         let code = accepted.code();
         let faults = faults::of_code(code);
         for one in &faults {
