@@ -73,6 +73,25 @@ size_t agree_on_search(Bed &bed, const std::vector<Point> &from, uint32_t r) {
     return found;
 }
 
+size_t agree_on_lists(Bed &bed, const Probes &probes) {
+    Product &product = bed.product;
+    product.make_room(probes);
+    const size_t found = product.search_all(probes);
+    const Hits lists = product.lists;
+    const std::vector<uint64_t> ends = product.ends;
+    product.make_room(probes);
+    must(product.search_each(probes) == found, "counts", "single calls");
+    must(product.lists == lists, "lists", "single calls");
+    must(product.ends == ends, "ends", "single calls");
+    Hits theirs, all;
+    for (const luv_probe &probe : probes) {
+        bed.form.search({probe.x, probe.y}, probe.r, theirs);
+        all.insert(all.end(), theirs.begin(), theirs.end());
+    }
+    must(all == Hits(lists.begin(), lists.begin() + ptrdiff_t(found)), "lists", "the C++ form");
+    return found;
+}
+
 void agree_on_walk(Bed &bed, const std::vector<Point> &from, const std::vector<uint32_t> &asks) {
     Rows theirs;
     for (Point q : from) {

@@ -17,6 +17,10 @@ static void preface() {
         many_rounds);
 }
 
+static void forty_preface() {
+    std::printf("\nForty probes in one call of the product, by forty calls of it that write the same lists one behind the other.\n");
+}
+
 static void walk_preface() {
     std::printf(
         "\nIn a walk the R-tree is asked for the nearest k: as many as the first ask wants, then twice as many whenever all are given.\n"
@@ -43,6 +47,9 @@ static void main_rows() {
     each(build_rows);
     heading("radius", {"/ R-tree", "/ scan", "/ C++ form"});
     each(radius_rows);
+    forty_preface();
+    heading("forty", {"/ single calls"});
+    each(forty_rows);
     walk_preface();
     heading("walk", {"/ R-tree", "/ scan", "/ C++ form", "zeros/product", "zeros/R-tree", "/ iterator"});
     each(walk_rows);

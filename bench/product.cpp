@@ -1,7 +1,5 @@
 #include "product.h"
 
-#include "luvgarden.h"
-
 #include <cstdio>
 #include <cstdlib>
 
@@ -31,7 +29,8 @@ void product_build(Grid g, const Register &reg, uint32_t *starts, size_t starts_
 }
 
 Product::Product(Grid g, const Register &reg)
-    : g(g), reg(reg), starts(LUV_STARTS(g.n)), entries(1), hits(count(reg)), pairs(1), front(LUV_FRONT(count(reg), g.n)), rows(2 * most_rows) {
+    : g(g), reg(reg), starts(LUV_STARTS(g.n)), entries(1), hits(count(reg)), lists(1), pairs(1), ends(1), front(LUV_FRONT(count(reg), g.n)),
+      rows(2 * most_rows) {
     uint64_t value = 0;
     const uint32_t number = luv_build_n(g.n, g.side, reg.data(), reg.size(), starts.data(), starts.size(), entries.data(), 0, &value);
     entries.resize(needed("build", number, value));
@@ -47,6 +46,37 @@ size_t Product::search(Point q, uint32_t r) {
     accepted("search", luv_search_n(g.n, g.side, reg.data(), reg.size(), starts.data(), starts.size(), entries.data(), entries.size(), q.x, q.y,
                                     r, hits.data(), hits.size(), &value));
     return size_t(value);
+}
+
+static uint32_t call_search_all(const Product &p, const Probes &probes, uint32_t *out, size_t out_length, uint64_t *ends, size_t ends_length,
+                                uint64_t *value) {
+    return luv_search_all_n(p.g.n, p.g.side, p.reg.data(), p.reg.size(), p.starts.data(), p.starts.size(), p.entries.data(), p.entries.size(),
+                            probes.data(), probes.size(), out, out_length, ends, ends_length, value);
+}
+
+size_t Product::search_all(const Probes &probes) {
+    uint64_t value = 0;
+    accepted("list of searches", call_search_all(*this, probes, lists.data(), lists.size(), ends.data(), ends.size(), &value));
+    return size_t(value);
+}
+
+size_t Product::search_each(const Probes &probes) {
+    size_t total = 0;
+    for (size_t k = 0; k < probes.size(); ++k) {
+        uint64_t value = 0;
+        accepted("search", luv_search_n(g.n, g.side, reg.data(), reg.size(), starts.data(), starts.size(), entries.data(), entries.size(),
+                                        probes[k].x, probes[k].y, probes[k].r, lists.data() + total, lists.size() - total, &value));
+        total += size_t(value);
+        ends[k] = total;
+    }
+    return total;
+}
+
+void Product::make_room(const Probes &probes) {
+    uint64_t value = 0;
+    const uint32_t number = call_search_all(*this, probes, lists.data(), 0, ends.data(), 0, &value);
+    lists.assign(needed("list of searches", number, value) + 1, 0);
+    ends.assign(probes.size(), 0);
 }
 
 void Product::start(Point q) {

@@ -1,6 +1,9 @@
 // The product, called as C++ programs call it, with what it is lent.
 #pragma once
+#include "luvgarden.h"
 #include "yards.h"
+
+using Probes = std::vector<luv_probe>;
 
 class Product {
 public:
@@ -11,6 +14,14 @@ public:
 
     // How many hits; `hits` has them.
     size_t search(Point q, uint32_t r);
+
+    // All probes in one call, and each in a call of its own with what is left of the same output. How many hits; `lists` has them, `ends` where
+    // each list ends.
+    size_t search_all(const Probes &probes);
+    size_t search_each(const Probes &probes);
+
+    // Lends as much as the lists of these probes need.
+    void make_room(const Probes &probes);
 
     void start(Point q);
 
@@ -26,8 +37,8 @@ public:
     const Grid g;
     const Register reg;
     std::vector<uint32_t> starts, entries;
-    std::vector<uint32_t> hits, pairs;
-    std::vector<uint64_t> front, rows;
+    std::vector<uint32_t> hits, lists, pairs;
+    std::vector<uint64_t> ends, front, rows;
     uint64_t waiting = 0;
 
 private:

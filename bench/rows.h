@@ -19,6 +19,7 @@ const int iterator_rounds = 3;
 
 void build_rows(Kind kind, Bed &bed);
 void radius_rows(Kind kind, Bed &bed);
+void forty_rows(Kind kind, Bed &bed);
 void walk_rows(Kind kind, Bed &bed);
 void join_rows(Kind kind, Bed &digs, Bed &bed);
 
