@@ -78,11 +78,11 @@ module _ (g : Grid) (few-tiles : g.n ≤ 16) where
   square_small : (reg : List ℕ) (q : Point) (i : ℕ) → Named g reg q i → square (point q) (rectangle g reg i) < 1000000000000
   unfolding square point
   square_small reg q i h =
-      let m : g.n * g.side ≤ 262144 = mul-le-mul {n₂ = 16} {m₂ = 16384} few-tiles (good_sizes g h.placed.sizes).side-most in
+      let m : g.n * g.side ≤ 262144 = mul-le-mul {n₂ = 16} {m₂ = 16384} few-tiles (good_sizes g h.placed.sizes).side_most in
       let o = on_grid g q h.placed.point in
       let a = good_rectangle g reg i (good_entry g reg i h.good).1 in
-      let x = small_gap (point q).x (rectangle g reg i).x (omega (arith, o.x-on)) (omega (arith, a.in-x.ordered, a.in-x.inside)) in
-      let y = small_gap (point q).y (rectangle g reg i).y (omega (arith, o.y-on)) (omega (arith, a.in-y.ordered, a.in-y.inside)) in
+      let x = small_gap (point q).x (rectangle g reg i).x (omega (arith, o.x_on)) (omega (arith, a.in_x.ordered, a.in_x.inside)) in
+      let y = small_gap (point q).y (rectangle g reg i).y (omega (arith, o.y_on)) (omega (arith, a.in_y.ordered, a.in_y.inside)) in
       let xx = mul-le-mul {n₂ = 262144} {m₂ = 262144} x x in
       let yy = mul-le-mul {n₂ = 262144} {m₂ = 262144} y y in
       omega arith

@@ -90,10 +90,10 @@ module _ {g : Grid} {reg : List ℕ} {q : Point} (S : Around g reg q) where
   good i h = good_footprint g reg S.accepted i h
 
   pub column_lt : column g q.x < g.n
-  column_lt = column_inside g sizes.side-pos q.x S.on.x-on
+  column_lt = column_inside g sizes.side_pos q.x S.on.x_on
 
   pub row_lt : column g q.y < g.n
-  row_lt = column_inside g sizes.side-pos q.y S.on.y-on
+  row_lt = column_inside g sizes.side_pos q.y S.on.y_on
 
   -- a tile other than the point's lies off its column or row
   pub off_centre : (t : ℕ) → (t ≡ tile_of g q → ⊥) → column_of g t ≡ column g q.x → row_of g t ≡ column g q.y → ⊥
@@ -106,8 +106,8 @@ module _ {g : Grid} {reg : List ℕ} {q : Point} (S : Around g reg q) where
 
   pub in_range : (z : Item) → Valid g reg q z → InRange z
   unfolding tile_count
-  in_range (Group d l) v = omega (arith, level_lt d l v.1, sizes.n-most)
-  in_range (Tile t) v = le_trans v.0 (mul-le-mul sizes.n-most sizes.n-most)
+  in_range (Group d l) v = omega (arith, level_lt d l v.1, sizes.n_most)
+  in_range (Tile t) v = le_trans v.0 (mul-le-mul sizes.n_most sizes.n_most)
   in_range (Footprint i) v = omega (arith, few_footprints g reg S.accepted)
 
   pub small : (z : Item) → Valid g reg q z → Small (waiting_row g reg q z)

@@ -34,7 +34,7 @@ module _ (g : Grid) (reg : List ℕ) where
 
   passes : Accepted g reg → register_verdict g reg (built_starts g reg) pass ≡ pass
   unfolding register_verdict
-  passes ok = rw (ok.sizes, lengths, ok.none-bad)
+  passes ok = rw (ok.sizes, lengths, ok.none_bad)
     where
       lengths : bad_lengths g (tables reg (built_starts g reg) []) ≡ false
       lengths = unfold bad_lengths built_tables in good_lengths g reg ok []

@@ -83,7 +83,7 @@ module _ (g : Grid) (reg_r tail_r reg_s tail_s : List ℕ) (ok_r : Accepted g re
         ≡ paired_in g reg_r reg_s r (run_no t a) (run_no u b) p
     unfolding stands lists paired_in pair_runs
     listed_here p hi hj =
-        let e = listed_in_one_pair g (good_sizes g ok_r.sizes).side-pos (rectangle g reg_r p.0) (rectangle g reg_s p.1)
+        let e = listed_in_one_pair g (good_sizes g ok_r.sizes).side_pos (rectangle g reg_r p.0) (rectangle g reg_s p.1)
         (good_footprint g reg_r ok_r p.0 hi) (good_footprint g reg_s ok_s p.1 hj) r small (run_no t a) (run_no u b) in
         rw (run_tile t a ha, run_class t a ha, run_tile u b hb, run_class u b hb)
         (rw (run_tile t a ha, run_class t a ha, run_tile u b hb, run_class u b hb) at e)
@@ -176,7 +176,7 @@ module _ (g : Grid) (reg_r tail_r reg_s tail_s : List ℕ) (ok_r : Accepted g re
     runs_below : i < count reg_r → j < count reg_s → (run_r < runs g) × (run_s < runs g)
     unfolding pair_runs
     runs_below hi hj =
-        let pos = (good_sizes g ok_r.sizes).side-pos in (
+        let pos = (good_sizes g ok_r.sizes).side_pos in (
           report_run_below g pos (corner (rectangle g reg_s j)) (rectangle g reg_r i) (good_footprint g reg_r ok_r i hi),
           report_run_below g pos (corner (rectangle g reg_r i)) (rectangle g reg_s j) (good_footprint g reg_s ok_s j hj),
         )

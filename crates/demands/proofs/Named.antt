@@ -85,7 +85,7 @@ module _ {g : Grid} {reg : List ℕ} {q : Point} (S : Around g reg q) (last : �
   squares_rise d k zero h = le_of_eq (ap (λ (n : ℕ). square_of g reg q (Group d n)) (omega arith))
   squares_rise d k (suc l) h =
       by_le k l
-      (λ u. le_trans (squares_rise d k l u) (rw add-one at (next_farther g (sizes S).side-pos reg q d l)))
+      (λ u. le_trans (squares_rise d k l u) (rw add-one at (next_farther g (sizes S).side_pos reg q d l)))
       (λ u. le_of_eq (ap (λ (n : ℕ). square_of g reg q (Group d n)) (omega arith)))
 
   pub group_named : (d : Direction) {z : Item} → Memᴰ z (groups_wait g reg q D d) → (l : ℕ) × (z ≡ Group d l) × Waits z
@@ -182,7 +182,7 @@ module _ {g : Grid} {reg : List ℕ} {q : Point} (S : Around g reg q) (last : �
             ≡ leb (par_key (key g reg q) (Valid g reg q) (parent g reg q) (brings g reg q) (cond b none (some (Tile (tile_for g reg q i))))) C
         go true e = sym (le-leb 0 C zero-le)
         go false e =
-            let t = tile_behind (tile_for g reg q i) (report_below g (sizes S).side-pos q (rectangle g reg i) (good S i v), eqb-false _ _ e) in
+            let t = tile_behind (tile_for g reg q i) (report_below g (sizes S).side_pos q (rectangle g reg i) (good S i v), eqb-false _ _ e) in
             leb_same _ _ _ _ t.1 t.0
 
     not_given : (i : ℕ) → i < count reg → (not (any (eqb i) given)) ≡ ltb C (K (Footprint i))

@@ -65,7 +65,7 @@ module _ {g : Grid} {reg : List ℕ} {q : Point} (S : Around g reg q) where
   -- the point's own is in none
   pub not_own : (d : Direction) (l t : ℕ) → 0 < l → tile_in_group g q d l t ≡ true → t ≡ tile_of g q → ⊥
   unfolding tile_in_group
-  not_own d l t h e f = not_centre (column g q.x) (column g q.y) d l (column_of g t) (row_of g t) h e (own_column g (sizes S).side-pos q (column_lt S) t f) (own_row g (sizes S).side-pos q (column_lt S) t f)
+  not_own d l t h e f = not_centre (column g q.x) (column g q.y) d l (column_of g t) (row_of g t) h e (own_column g (sizes S).side_pos q (column_lt S) t f) (own_row g (sizes S).side_pos q (column_lt S) t f)
 
   -- ---- an item lies later than what brings it
 
@@ -79,18 +79,18 @@ module _ {g : Grid} {reg : List ℕ} {q : Point} (S : Around g reg q) where
   later (Group d (suc zero)) v = tt
   later (Group d (suc (suc l))) v = (
     (suc-le-suc zero-le, unfold group_exists in exists_less g.n (column g q.x) (column g q.y) d (suc l) v.1),
-    rw (← add-one (suc l)) (group_before_next (next_farther g (sizes S).side-pos reg q d (suc l)) d (suc l)),
+    rw (← add-one (suc l)) (group_before_next (next_farther g (sizes S).side_pos reg q d (suc l)) d (suc l)),
   )
   later (Tile t) v =
       let b = in_own_group t v in
-      (b.0, group_before_tile (tile_farther g (sizes S).side-pos reg q (direction_in g reg q t) (level_in g reg q t) t b.1) (direction_in g reg q t) (level_in g reg q t) t (in_range S (group_of g reg q t) b.0))
+      (b.0, group_before_tile (tile_farther g (sizes S).side_pos reg q (direction_in g reg q t) (level_in g reg q t) t b.1) (direction_in g reg q t) (level_in g reg q t) t (in_range S (group_of g reg q t) b.0))
   later (Footprint i) v = go (eqb (tile_for g reg q i) (tile_of g q)) refl
     where
       go : (b : Bool) → eqb (tile_for g reg q i) (tile_of g q) ≡ b → Later (Footprint i) (cond b none (some (Tile (tile_for g reg q i))))
       go true e = tt
       go false e =
-          let vt : There (Tile (tile_for g reg q i)) = (report_below g (sizes S).side-pos q (rectangle g reg i) (good S i v), eqb-false _ _ e) in
-          (vt, tile_before_footprint (footprint_farther g (sizes S).side-pos reg q i (good S i v)) (tile_for g reg q i) i (in_range S (Tile (tile_for g reg q i)) vt))
+          let vt : There (Tile (tile_for g reg q i)) = (report_below g (sizes S).side_pos q (rectangle g reg i) (good S i v), eqb-false _ _ e) in
+          (vt, tile_before_footprint (footprint_farther g (sizes S).side_pos reg q i (good S i v)) (tile_for g reg q i) i (in_range S (Tile (tile_for g reg q i)) vt))
 
   pub above_parent : (z y : Item) → There z → P z ≡ some y → There y × (K y < K z)
   above_parent z y v e = rw e at (later z v)

@@ -35,16 +35,16 @@ module _ {g : Grid} {reg : List ℕ} {q : Point} (S : Around g reg q) where
       let m : (0 ≤ i) × (i < 0 + count reg) = mem_from 0 (count reg) s.0 in
       let h : i < count reg = omega arith in
       let e : k ≡ report_run g q (rectangle g reg i) =
-      eqb-true _ _ (sym (given_by_one_run g (sizes S).side-pos q (rectangle g reg i) (good S i h) k) ∙ both_true s.1 f.1) in
+      eqb-true _ _ (sym (given_by_one_run g (sizes S).side_pos q (rectangle g reg i) (good S i h) k) ∙ both_true s.1 f.1) in
       let d : k / 16 ≡ t = omega arith in
-      (h, e, sym (report_run_tile g (sizes S).side-pos q (rectangle g reg i) (good S i h)) ∙ ap (λ (x : ℕ). x / 16) (sym e) ∙ d)
+      (h, e, sym (report_run_tile g (sizes S).side_pos q (rectangle g reg i) (good S i h)) ∙ ap (λ (x : ℕ). x / 16) (sym e) ∙ d)
 
   -- its reporting run is allowed, and it stands there
   stands_allowed : (i : ℕ) (h : i < count reg)
       → (stands g reg (report_run g q (rectangle g reg i)) i && allowed_run g q (report_run g q (rectangle g reg i))) ≡ true
   unfolding stands
   stands_allowed i h =
-      given_by_one_run g (sizes S).side-pos q (rectangle g reg i) (good S i h) (report_run g q (rectangle g reg i))
+      given_by_one_run g (sizes S).side_pos q (rectangle g reg i) (good S i h) (report_run g q (rectangle g reg i))
       ∙ eq-eqb (report_run g q (rectangle g reg i)) _ refl
 
   run_allowed : (i : ℕ) → i < count reg → Memᴰ (report_run g q (rectangle g reg i)) (allowed_runs g q (tile_for g reg q i))

@@ -54,7 +54,7 @@ module _ {g : Grid} {reg : List ℕ} {q : Point} (S : Around g reg q) where
   groups_rise d k zero h = le_of_eq (ap (λ (n : ℕ). K (Group d n)) (omega arith))
   groups_rise d k (suc l) h =
       by_le k l
-      (λ u. le_trans (groups_rise d k l u) (le_of_lt (rw (← add-one l) (group_before_next (next_farther g (sizes S).side-pos reg q d l) d l))))
+      (λ u. le_trans (groups_rise d k l u) (le_of_lt (rw (← add-one l) (group_before_next (next_farther g (sizes S).side_pos reg q d l) d l))))
       (λ u. le_of_eq (ap (λ (n : ℕ). K (Group d n)) (omega arith)))
 
   -- of two groups of a direction, one waits

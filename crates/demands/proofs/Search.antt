@@ -41,7 +41,7 @@ drop_visit false false false w h = refl
 
 module _ (g : Grid) (reg tail : List ℕ) (ok : Accepted g reg) (q : Point) (r : ℕ) where
   abbrev pos : 0 < g.side
-  pos = (good_sizes g ok.sizes).side-pos
+  pos = (good_sizes g ok.sizes).side_pos
 
   -- footprint i is read and listed in run k exactly if that is the run that reports it
   given_in : (k i : ℕ) → i < count reg → ((reads g q r k && stands g reg k i) && is_hit g reg q r i) ≡ reported g reg q r k i

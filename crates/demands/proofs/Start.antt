@@ -38,7 +38,7 @@ module _ {g : Grid} {reg : List ℕ} {q : Point} (S : Around g reg q) (tail : Li
 
   entries_are : start_entries g T q ≡ in_tq
   unfolding start_entries
-  entries_are = ap (each (run_at T)) (sym (own_runs g (sizes S).side-pos q (column_lt S))) ∙ tile_brings_law S tail (tile_of g q) (own_tile_lt S tail)
+  entries_are = ap (each (run_at T)) (sym (own_runs g (sizes S).side_pos q (column_lt S))) ∙ tile_brings_law S tail (tile_of g q) (own_tile_lt S tail)
 
   -- the start's front: what waits before anything is taken
   pub start_front_law : start_front g T q ≡ map (waiting_row g reg q) (waits g reg q 0 (ordered g reg q))
@@ -53,7 +53,7 @@ module _ {g : Grid} {reg : List ℕ} {q : Point} (S : Around g reg q) (tail : Li
 
   pub point_on : bad_point g q ≡ false
   unfolding bad_point off_grid
-  point_on = rw (lt-leb _ _ S.on.x-on, lt-leb _ _ S.on.y-on)
+  point_on = rw (lt-leb _ _ S.on.x_on, lt-leb _ _ S.on.y_on)
 
   few_in_tq : length in_tq ≤ count reg
   few_in_tq = pigeons self (count reg) in_tq (apart_numbers S (tile_of g q)) (λ a m. number_lt S (tile_of g q) a m)

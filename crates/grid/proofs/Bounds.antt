@@ -17,4 +17,4 @@ on_grid g r c h = (below_square g.n r c h.1 h.2, square_most g.n h.0)
 
 -- all coordinates are below 64×16,384
 pub coordinates_most : (g : Grid) → GoodSizes g → g.n * g.side ≤ 1048576
-coordinates_most g s = mul-le-mul {n₂ = 64} {m₂ = 16384} s.n-most s.side-most
+coordinates_most g s = mul-le-mul {n₂ = 64} {m₂ = 16384} s.n_most s.side_most

@@ -23,7 +23,7 @@ pub entries_most : (g : Grid) (reg : List ℕ) → Accepted g reg → length (bu
 unfolding tile_count
 entries_most g reg ok =
     le_trans (most_entries_law g reg)
-    (mul-le-mul {n₂ = 65536} {m₂ = 4096} (few_footprints g reg ok) (square_most g.n (good_sizes g ok.sizes).n-most))
+    (mul-le-mul {n₂ = 65536} {m₂ = 4096} (few_footprints g reg ok) (square_most g.n (good_sizes g ok.sizes).n_most))
 
 module _ (g : Grid) (reg starts entries : List ℕ) (passed : register_verdict g reg starts pass ≡ pass) where
   pub one_short : length entries + 1 ≡ length (built_entries g reg)

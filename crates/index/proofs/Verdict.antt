@@ -114,11 +114,11 @@ module _ (g : Grid) (reg starts : List ℕ) where
         let s = good_sizes g sizes_pass.0 in
         let a = good_footprint g reg accepted i h in
         record {
-          small = s.n-most;
-          cols = div_rises s.side-pos a.in-x.ordered;
-          col = (div-lt_iff_lt-mul s.side-pos).1 a.in-x.inside;
-          rows = div_rises s.side-pos a.in-y.ordered;
-          row = (div-lt_iff_lt-mul s.side-pos).1 a.in-y.inside;
+          small = s.n_most;
+          cols = div_rises s.side_pos a.in_x.ordered;
+          col = (div-lt_iff_lt-mul s.side_pos).1 a.in_x.inside;
+          rows = div_rises s.side_pos a.in_y.ordered;
+          row = (div-lt_iff_lt-mul s.side_pos).1 a.in_y.inside;
           room = omega (arith, starts_stand);
         }
 

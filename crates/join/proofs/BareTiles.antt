@@ -60,7 +60,7 @@ module _ (g : Grid) (tr ts : Tables) (j : Judged g tr ts) (r t u : ℕ) where
   bare_of_r h e =
       tile_pairs_law g tr ts r t u
       ∙ none (class_pairs g tr ts r t u) (λ a k.
-      class_empty g j.sizes tr ts r t u a (run_at tr (run_no t a)) refl (bare_run g tr j.of-r t a h k e))
+      class_empty g j.sizes tr ts r t u a (run_at tr (run_no t a)) refl (bare_run g tr j.of_r t a h k e))
 
   pub bare_of_s : u < tile_count g → bare_tile ts.starts u ≡ true → tile_pairs g tr ts r t u ≡ []
   bare_of_s h e =
@@ -69,4 +69,4 @@ module _ (g : Grid) (tr ts : Tables) (j : Judged g tr ts) (r t u : ℕ) where
       class_pairs_law g j.sizes tr ts r t u a (run_at tr (run_no t a)) refl
       ∙ none (marked_pairs g tr.reg ts r t u a (run_at tr (run_no t a))) (λ b l.
       no_entries g tr.reg ts r t u a (run_at tr (run_no t a)) b (run_no u b) (run_at ts (run_no u b)) refl refl
-      (bare_run g ts j.of-s u b h l e)))
+      (bare_run g ts j.of_s u b h l e)))

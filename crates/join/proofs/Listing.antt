@@ -25,7 +25,7 @@ pub named_near : (g : Grid) (reg : List ℕ) (i : ℕ) → bad_sizes g ≡ false
 named_near g reg i s h =
     let a = good_rectangle g reg i (good_entry g reg i h).1 in
     let most = coordinates_most g (good_sizes g s) in
-    record { x = omega (arith, a.in-x.ordered, a.in-x.inside); y = omega (arith, a.in-y.ordered, a.in-y.inside) }
+    record { x = omega (arith, a.in_x.ordered, a.in_x.inside); y = omega (arith, a.in_y.ordered, a.in_y.inside) }
 
 module _ (g : Grid) (reg_r reg_s : List ℕ) (r k m i j : ℕ) where
   -- a listed pair is one more

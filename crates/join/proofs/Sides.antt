@@ -23,12 +23,12 @@ entry_good g reg l i h e = not-true _ (all_at (λ i. not (bad_entry g reg i)) l 
 
 pub tiles_most : (g : Grid) → bad_sizes g ≡ false → tile_count g ≤ 4096
 unfolding tile_count
-tiles_most g s = square_most g.n (good_sizes g s).n-most
+tiles_most g s = square_most g.n (good_sizes g s).n_most
 
 module _ (g : Grid) (t : Tables) (s : Sound g t) (k : ℕ) (h : k < runs g) where
   run_good : good_run g t k ≡ true
   unfolding good_runs
-  run_good = all_below (good_run g t) (runs g) s.all-good k h
+  run_good = all_below (good_run g t) (runs g) s.all_good k h
 
   pub run_stands : k + 1 < length t.starts
   unfolding bad_lengths

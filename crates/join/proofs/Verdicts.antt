@@ -59,4 +59,4 @@ module _ (g : Grid) (tr ts : Tables) (r : ℕ) (out : List ℕ) where
   pub accepted : Judged g tr ts → ltb g.side r ≡ false
       → fit (length (join_pairs g tr ts r)) (each pair_writes (join_pairs g tr ts r)) out ≡ joins g tr ts r out
   unfolding joins join_verdict
-  accepted j h = rw (j.sizes, j.of-r.lengths, j.of-s.lengths, h, j.of-r.all-good, j.of-s.all-good)
+  accepted j h = rw (j.sizes, j.of_r.lengths, j.of_s.lengths, h, j.of_r.all_good, j.of_s.all_good)

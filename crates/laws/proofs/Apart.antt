@@ -25,6 +25,7 @@ module _ {A : Type 0} (key : A → ℕ) where
       rw (ne_eqb (key z) (key y) (h y (Memᴰ.head refl))) (has_none z l (λ y' m. h y' (Memᴰ.tail m)))
 
   pub has_mem : (z : A) (l : List A) → Memᴰ z l → has z l ≡ true
+  has_mem z [] x' = elim x' [ ]
   has_mem z (y ∷ l) (Memᴰ.head e) = rw (eq-eqb (key z) (key y) (ap key e))
   has_mem z (y ∷ l) (Memᴰ.tail m) = rw (has_mem z l m, or-true (eqb (key z) (key y)))
 
@@ -58,6 +59,7 @@ module _ {A : Type 0} (key : A → ℕ) where
       in_l y e p = has_key l p
         where
           has_key : (k : List A) → Memᴰ y k → has x k ≡ true
+          has_key [] x5 = elim x5 [ ]
           has_key (w ∷ k) (Memᴰ.head f) = rw (eq-eqb (key x) (key w) (e ∙ ap key f))
           has_key (w ∷ k) (Memᴰ.tail r) = rw (has_key k r, or-true (eqb (key x) (key w)))
 

@@ -9,6 +9,7 @@ use Rattle.laws.proofs.Tests.{fst_true, snd_true}
 use Rattle.laws.proofs.Ranges.{from_mem}
 
 pub all_mem : {A : Type 0} (p : A → Bool) {x : A} (l : List A) → all p l ≡ true → Memᴰ x l → p x ≡ true
+all_mem {A = A} p mathlib.Core.List.[] e x3 = elim x3 [ ]
 all_mem p (y ∷ l) e (Memᴰ.head f) = ap p f ∙ fst_true (p y) (all p l) e
 all_mem p (y ∷ l) e (Memᴰ.tail m) = all_mem p l (snd_true (p y) (all p l) e) m
 

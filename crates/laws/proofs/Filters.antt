@@ -21,6 +21,7 @@ module _ {A : Type 0} where
   -- ---- some element passes
 
   pub any_mem : (p : A → Bool) {z : A} (l : List A) → Memᴰ z l → p z ≡ true → any p l ≡ true
+  any_mem p {z = z} [] x'' t = elim x'' [ ]
   any_mem p {z} (x ∷ l) (Memᴰ.head e) t = rw (ap p (sym e) ∙ t)
   any_mem p (x ∷ l) (Memᴰ.tail m) t = rw (any_mem p l m t, or-true (p x))
 
@@ -43,6 +44,7 @@ number_any i l m = any_mem (eqb i) l m (eq-eqb i i refl)
 
 -- a number that stands in a list of which no two are equal stands there once
 pub times_one : (i : ℕ) (l : List ℕ) → Apart self l → Memᴰ i l → times i l ≡ 1
+times_one i [] a x'' = elim x'' [ ]
 times_one i (x ∷ l) a (Memᴰ.head e) = rw (eq-eqb i x e) (ap suc (none l (λ k m f. has_not self x l a.0 (Memᴰ.cast (sym (f ∙ e)) m))))
   where
     none : (l : List ℕ) → ((k : ℕ) → Memᴰ k l → k ≡ i → ⊥) → times i l ≡ 0

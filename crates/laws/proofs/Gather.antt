@@ -65,6 +65,7 @@ module _ {A : Type 0} (key : A → ℕ) where
       go (inr n) below = Memᴰ.tail (below n)
 
   put_old : (y : A) {z : A} (l : List A) → Memᴰ z l → Memᴰ z (put y l)
+  put_old y {z = z} [] m = elim m [ ]
   put_old y {z} (b ∷ l) m = go (ltb (key y) (key b)) (eqb (key y) (key b)) (Memᴰ.cases_cons m) (λ n. put_old y l n)
     where
       go : (t u : Bool) → (z ≡ b) ⊎ Memᴰ z l → (Memᴰ z l → Memᴰ z (put y l)) → Memᴰ z (cond t (y ∷ b ∷ l) (cond u (b ∷ l) (b ∷ put y l)))
@@ -84,6 +85,7 @@ module _ {A : Type 0} (key : A → ℕ) where
       go false false e n = Memᴰ.tail n
 
   pub gather_complete : {z : A} (l : List A) → ((a b : A) → Memᴰ a l → Memᴰ b l → key a ≡ key b → a ≡ b) → Memᴰ z l → Memᴰ z (gather l)
+  gather_complete {z = z} [] h x'' = elim x'' [ ]
   gather_complete (a ∷ l) h (Memᴰ.head e) =
       rw e (put_new a (gather l) (λ z m. h a z (Memᴰ.head refl) (Memᴰ.tail (gather_sound l m))))
   gather_complete (a ∷ l) h (Memᴰ.tail m) =

@@ -21,6 +21,7 @@ module _ {A : Type 0} where
       go false e n below = (Memᴰ.tail (below n).0, (below n).1)
 
   pub filter_mem : (p : A → Bool) {z : A} (l : List A) → Memᴰ z l → p z ≡ true → Memᴰ z (filter p l)
+  filter_mem p {z = z} [] x'' e = elim x'' [ ]
   filter_mem p {z} (x ∷ l) (Memᴰ.head f) e = rw (ap p (sym f) ∙ e) (Memᴰ.head f)
   filter_mem p (x ∷ l) (Memᴰ.tail m) e = go (p x) (filter_mem p l m e)
     where
@@ -29,6 +30,7 @@ module _ {A : Type 0} where
       go false n = n
 
   pub each_mem : {B : Type 0} (f : B → List A) {z : A} {x : B} (l : List B) → Memᴰ x l → Memᴰ z (f x) → Memᴰ z (each f l)
+  each_mem {B = B} f {z = z} [] x3 m = elim x3 [ ]
   each_mem f {z} (y ∷ l) (Memᴰ.head e) m = Memᴰ.append_left (each f l) (rw e at m)
   each_mem f (y ∷ l) (Memᴰ.tail n) m = Memᴰ.append_right (f y) (each_mem f l n m)
 

@@ -35,6 +35,7 @@ module _ {A : Type 0} (key : A → ℕ) where
   above_less (x ∷ l) h t = (lt_of_le_of_lt h t.0, t.1)
 
   pub above_mem : (l : List A) {k : ℕ} {y : A} → Above k l → Memᴰ y l → k < key y
+  above_mem [] {k = k} {y = y} t x'' = elim x'' [ ]
   above_mem (x ∷ l) {k} {y} t (Memᴰ.head e) = rw e t.0
   above_mem (x ∷ l) t (Memᴰ.tail m) = above_mem l (above_less l (le_of_lt t.0) t.1) m
 
@@ -62,6 +63,7 @@ module _ {A : Type 0} (key : A → ℕ) where
   -- putting in a row of U that did not pass
   pub ins_filter : (p : A → Bool) (y : A) (k : ℕ) (l : List A) → Above k l → Memᴰ y l → p y ≡ false
       → ins y (filter p l) ≡ filter (also p y) l
+  ins_filter p y k [] t x3 f = elim x3 [ ]
   ins_filter p y k (x ∷ l) t (Memᴰ.head e) f =
       rw (← e, f, eq-eqb (key y) (key y) refl, also_none p y (key y) l (rw e t.1) (le_refl (key y)))
       (ins_first y (key y) (filter p l) (rw e (above_filter p (key x) l t.1)) (le_refl (key y)))

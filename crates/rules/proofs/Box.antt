@@ -25,7 +25,7 @@ module _ (g : Grid) (ok : GoodSizes g) (r x : ℕ) where
   pub near_column : (c : ℕ) → c < g.n → gap (at x) (cover g.side c) ≤ r → (first_column g r x ≤ c) × (c ≤ last_column g r x)
   unfolding first_column last_column column gap cover
   near_column c h k =
-      let pos = ok.side-pos in
+      let pos = ok.side_pos in
       let a : (x - r) / g.side < suc c = (div-lt_iff_lt-mul {x = x - r} {y = suc c} pos).1 (omega arith) in
       let b : c ≤ (x + r) / g.side = (le-div_iff_mul-le {x = c} {y = x + r} pos).1 (omega arith) in
       (omega arith, omega arith)
@@ -34,7 +34,7 @@ module _ (g : Grid) (ok : GoodSizes g) (r x : ℕ) where
     pub first_last : first_column g r x ≤ last_column g r x
     unfolding first_column last_column column
     first_last =
-        let pos = ok.side-pos in
+        let pos = ok.side_pos in
         let a : (x - r) / g.side ≤ x / g.side = div_rises pos (omega arith) in
         let b : x / g.side ≤ (x + r) / g.side = div_rises pos (omega arith) in
         let d : x / g.side < g.n = (div-lt_iff_lt-mul pos).1 on in
@@ -51,7 +51,7 @@ module _ (g : Grid) (ok : GoodSizes g) (q : Point) (r : ℕ) where
   pub visits_at : (row col : ℕ) → col < g.n
       → visits g q r (tile_no g row col) ≡ within r (point q) (record { x = cover g.side col; y = cover g.side row })
   unfolding visits tile_rect
-  visits_at row col h = rw (column_again g ok.side-pos row col h, row_again g ok.side-pos row col h)
+  visits_at row col h = rw (column_again g ok.side_pos row col h, row_again g ok.side_pos row col h)
 
   -- a tile is visited only inside the box
   pub in_box_law : (row col : ℕ) → row < g.n → col < g.n → visits g q r (tile_no g row col) ≡ true
@@ -72,10 +72,10 @@ module _ (g : Grid) (ok : GoodSizes g) (q : Point) (r : ℕ) where
       → visited g q r ≡ each (λ row. filter (visits g q r) (box_row g q r row)) (from (first_column g r q.y) (columns_near g r q.y))
   unfolding visited tiles tile_count tile_no box_row columns_near
   visited_box on =
-      let fx = first_last g ok r q.x on.x-on in
-      let fy = first_last g ok r q.y on.y-on in
-      let lx = last_inside g ok r q.x on.x-on in
-      let ly = last_inside g ok r q.y on.y-on in
+      let fx = first_last g ok r q.x on.x_on in
+      let fy = first_last g ok r q.y on.y_on in
+      let lx = last_inside g ok r q.x on.x_on in
+      let ly = last_inside g ok r q.y on.y_on in
       box (visits g q r) g.n g.n
       (first_column g r q.y) (last_column g r q.y + 1 - first_column g r q.y) (g.n - 1 - last_column g r q.y)
       (first_column g r q.x) (last_column g r q.x + 1 - first_column g r q.x) (g.n - 1 - last_column g r q.x)

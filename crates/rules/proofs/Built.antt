@@ -94,7 +94,7 @@ module _ (g : Grid) (reg : List ℕ) where
     pub few_entries : length (built_entries g reg) ≤ 268435456
     few_entries =
         let s = good_sizes g ok.sizes in
-        le_trans most_entries_law (unfold tile_count in mul-le-mul (few_footprints g reg ok) (mul-le-mul s.n-most s.n-most))
+        le_trans most_entries_law (unfold tile_count in mul-le-mul (few_footprints g reg ok) (mul-le-mul s.n_most s.n_most))
 
     pub good_lengths : (tail : List ℕ) → bad_lengths g (built_tables g reg tail) ≡ false
     unfolding bad_lengths built_tables bad_starts

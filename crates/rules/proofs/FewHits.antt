@@ -62,7 +62,7 @@ module _ (g : Grid) (t : Tables) where
   few_runs : (q : Point) (r : ℕ) → bad_sizes g ≡ false → length (read_runs g q r) ≤ 16 * (most_tiles * most_tiles)
   unfolding runs tile_count
   few_runs q r e =
-      let m = (good_sizes g e).n-most in
+      let m = (good_sizes g e).n_most in
       let s : g.n * g.n ≤ 64 * 64 = mul-le-mul m m in
       omega (arith, ap length (read_runs_are g q r), length_filter (reads g q r) (up_to (runs g)), length_from 0 (runs g))
 

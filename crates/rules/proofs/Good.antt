@@ -98,7 +98,7 @@ module _ (g : Grid) (reg : List ℕ) (ok : Accepted g reg) where
       nothing e =
           let m : Memᴰ i (filter (bad_footprint g reg) (up_to (count reg))) =
           filter_mem (bad_footprint g reg) (up_to (count reg)) (from_mem 0 (count reg) i zero-le (omega arith)) e in
-          mathlib.Core.List.Memᴰ.not-nil (rw ok.none-bad at m)
+          mathlib.Core.List.Memᴰ.not-nil (rw ok.none_bad at m)
 
   pub good_footprint : (i : ℕ) → i < count reg → GoodRect g (rectangle g reg i)
   good_footprint i h = good_rectangle g reg i (not_bad i h)

@@ -30,7 +30,7 @@ group_in_range g q d l sized on e = let s = good_sizes g sized in omega (arith, 
 
 pub tile_in_range : (g : Grid) (t : ℕ) → bad_sizes g ≡ false → t < tile_count g → InRange (Tile t)
 unfolding tile_count
-tile_in_range g t sized h = let s = good_sizes g sized in omega (arith, square_rises {a = g.n} {b = most_tiles} s.n-most)
+tile_in_range g t sized h = let s = good_sizes g sized in omega (arith, square_rises {a = g.n} {b = most_tiles} s.n_most)
 
 -- what comes to wait is read again when it is taken
 pub waiting_read : (g : Grid) (reg : List ℕ) (q : Point) (i : Item) → InRange i → decoded (waiting_row g reg q i) ≡ Known (row (square_of g reg q i) i)

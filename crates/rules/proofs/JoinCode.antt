@@ -169,7 +169,7 @@ module _ (g : Grid) (ok : GoodSizes g) (t : ℕ) (h : t < tile_count g) where
     pub tile_at_below : tile_at g t p < tile_count g
     unfolding tile_at
     tile_at_below =
-        tile_below g ok.side-pos (row + p / 3 - 1) (col + p % 3 - 1)
+        tile_below g ok.side_pos (row + p / 3 - 1) (col + p % 3 - 1)
         (inside row (p / 3) (omega arith) reaches_row) (inside col (p % 3) (omega arith) reaches_col)
 
 -- ---- the loops

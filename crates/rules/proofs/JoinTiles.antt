@@ -32,10 +32,10 @@ module _ (g : Grid) (pos : 0 < g.side) (a b : Rect) (ok_a : GoodRect g a) (ok_b 
       ap (λ (m : Bool). (shares (tile_rect g t) a && shares (tile_rect g u) b) && m)
       (marked_bits (place (column_of g u) (column_of g t)) (place (row_of g u) (row_of g t)) _ _ _ _ _ _ _ _)
       ∙ cross_three (meets (cover g.side (column_of g t)) a.x) _ (meets (cover g.side (column_of g u)) b.x) _ _ _
-      ∙ ap₂ ◌&&◌ (joined_one pos a.x b.x ok_a.in-x.ordered ok_b.in-x.ordered (column_of g t) (column_of g u))
-      (joined_one pos a.y b.y ok_a.in-y.ordered ok_b.in-y.ordered (row_of g t) (row_of g u))
+      ∙ ap₂ ◌&&◌ (joined_one pos a.x b.x ok_a.in_x.ordered ok_b.in_x.ordered (column_of g t) (column_of g u))
+      (joined_one pos a.y b.y ok_a.in_y.ordered ok_b.in_y.ordered (row_of g t) (row_of g u))
       ∙ cross (eqb (column_of g t) _) _ (eqb (row_of g t) _) _
-      ∙ ap₂ ◌&&◌ (tile_no_law g pos t _ _ (drawn_inside g pos _ a.x ok_a.in-x)) (tile_no_law g pos u _ _ (drawn_inside g pos _ b.x ok_b.in-x))
+      ∙ ap₂ ◌&&◌ (tile_no_law g pos t _ _ (drawn_inside g pos _ a.x ok_a.in_x)) (tile_no_law g pos u _ _ (drawn_inside g pos _ b.x ok_b.in_x))
 
   -- within r ≤ side these two tiles are neighbours, so a pair of tiles that is not visited hides no pair
   pub joined_is_visited : (r : ℕ) → r ≤ g.side → within r a b ≡ true
@@ -43,15 +43,15 @@ module _ (g : Grid) (pos : 0 < g.side) (a b : Rect) (ok_a : GoodRect g a) (ok_b 
   unfolding neighbours report_tile within square corner column
   joined_is_visited r h w =
       let k : sq (gap a.x b.x) + sq (gap a.y b.y) ≤ sq r = leb-true _ _ w in
-      let la : drawn g.side (b.x.lo / g.side) a.x < g.n = drawn_inside g pos _ a.x ok_a.in-x in
-      let lb : drawn g.side (a.x.lo / g.side) b.x < g.n = drawn_inside g pos _ b.x ok_b.in-x in
+      let la : drawn g.side (b.x.lo / g.side) a.x < g.n = drawn_inside g pos _ a.x ok_a.in_x in
+      let lb : drawn g.side (a.x.lo / g.side) b.x < g.n = drawn_inside g pos _ b.x ok_b.in_x in
       rw (
         column_again g pos (drawn g.side (b.y.lo / g.side) a.y) _ la,
         row_again g pos (drawn g.side (b.y.lo / g.side) a.y) _ la,
         column_again g pos (drawn g.side (a.y.lo / g.side) b.y) _ lb,
         row_again g pos (drawn g.side (a.y.lo / g.side) b.y) _ lb,
-        joined_beside pos a.x b.x ok_a.in-x.ordered ok_b.in-x.ordered (le_trans (square_back (omega arith)) h),
-        joined_beside pos a.y b.y ok_a.in-y.ordered ok_b.in-y.ordered (le_trans (square_back (omega arith)) h),
+        joined_beside pos a.x b.x ok_a.in_x.ordered ok_b.in_x.ordered (le_trans (square_back (omega arith)) h),
+        joined_beside pos a.y b.y ok_a.in_y.ordered ok_b.in_y.ordered (le_trans (square_back (omega arith)) h),
       )
 
   module _ (r : ℕ) (small : r ≤ g.side) where

@@ -36,8 +36,8 @@ module _ (a b : Three) (sa : Small a) (sb : Small b) where
       (λ n. rw (le-ltb _ _ u, eq-eqb a.square b.square (omega arith), le-ltb _ _ k, eq-eqb a.kind b.kind (omega arith), lt-ltb _ _ n) (sym (lt-ltb (key_row a) (key_row b) (omega arith)))))
       (λ m. rw (le-ltb _ _ u, eq-eqb a.square b.square (omega arith), le-ltb _ _ k, ne_eqb a.kind b.kind (omega arith)) (sym (le-ltb (key_row a) (key_row b) (omega (arith, sb.number_lt))))))
       (λ k. rw (le-ltb _ _ u, eq-eqb a.square b.square (omega arith), lt-ltb _ _ k) (sym (lt-ltb (key_row a) (key_row b) (omega (arith, sa.number_lt))))))
-      (λ v. rw (le-ltb _ _ u, ne_eqb a.square b.square (omega arith)) (sym (le-ltb (key_row a) (key_row b) (omega (arith, sb.number_lt, sb.kind-lt))))))
-      (λ u. rw (lt-ltb _ _ u) (sym (lt-ltb (key_row a) (key_row b) (omega (arith, sa.number_lt, sa.kind-lt)))))
+      (λ v. rw (le-ltb _ _ u, ne_eqb a.square b.square (omega arith)) (sym (le-ltb (key_row a) (key_row b) (omega (arith, sb.number_lt, sb.kind_lt))))))
+      (λ u. rw (lt-ltb _ _ u) (sym (lt-ltb (key_row a) (key_row b) (omega (arith, sa.number_lt, sa.kind_lt)))))
 
   pub key_number : key_row a ≡ key_row b → a.number ≡ b.number
   unfolding key_row
@@ -47,9 +47,9 @@ module _ (a b : Three) (sa : Small a) (sb : Small b) where
   pub key_kind : key_row a ≡ key_row b → a.kind ≡ b.kind
   unfolding key_row
   key_kind e =
-      sym (digits_mod a.square sa.kind-lt)
+      sym (digits_mod a.square sa.kind_lt)
       ∙ ap (λ (n : ℕ). n % 3) (sym (digits_div (a.square * 3 + a.kind) sa.number_lt) ∙ ap (λ (n : ℕ). n / most_footprints) e ∙ digits_div (b.square * 3 + b.kind) sb.number_lt)
-      ∙ digits_mod b.square sb.kind-lt
+      ∙ digits_mod b.square sb.kind_lt
 
 -- from a group to a tile to a footprint the key rises where the square does not fall
 pub key_rises : (s t k m i j : ℕ) → s ≤ t → k < m → i < most_footprints → key_row (three s k i) < key_row (three t m j)

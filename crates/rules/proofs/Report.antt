@@ -88,24 +88,24 @@ module _ (g : Grid) (pos : 0 < g.side) where
         ap (λ (b : Bool). shares (tile_rect g t) a && b)
         (allowed_bits (place (column_of g t) (column g q.x)) (place (row_of g t) (column g q.y)) _ _ _ _)
         ∙ cross (meets (cover g.side (column_of g t)) a.x) _ _ _
-        ∙ ap₂ ◌&&◌ (gives_one pos (column_of g t) a.x ok.in-x.ordered (column g q.x))
-        (gives_one pos (row_of g t) a.y ok.in-y.ordered (column g q.y))
-        ∙ tile_no_law t _ _ (drawn_inside (column g q.x) a.x ok.in-x)
+        ∙ ap₂ ◌&&◌ (gives_one pos (column_of g t) a.x ok.in_x.ordered (column g q.x))
+        (gives_one pos (row_of g t) a.y ok.in_y.ordered (column g q.y))
+        ∙ tile_no_law t _ _ (drawn_inside (column g q.x) a.x ok.in_x)
 
     pub report_below : report_tile g q a < tile_count g
     unfolding report_tile
-    report_below = tile_below _ _ (drawn_inside (column g q.y) a.y ok.in-y) (drawn_inside (column g q.x) a.x ok.in-x)
+    report_below = tile_below _ _ (drawn_inside (column g q.y) a.y ok.in_y) (drawn_inside (column g q.x) a.x ok.in_x)
 
     -- which is no farther than it
     pub report_near : square (point q) (tile_rect g (report_tile g q a)) ≤ square (point q) a
     unfolding square tile_rect report_tile point column
     report_near =
-        let lt : drawn g.side (column g q.x) a.x < g.n = drawn_inside (column g q.x) a.x ok.in-x in
+        let lt : drawn g.side (column g q.x) a.x < g.n = drawn_inside (column g q.x) a.x ok.in_x in
         rw (
           column_again (drawn g.side (column g q.y) a.y) (drawn g.side (column g q.x) a.x) lt,
           row_again (drawn g.side (column g q.y) a.y) (drawn g.side (column g q.x) a.x) lt,
         )
-        (add-le-add (square_rises (gap_drawn pos q.x a.x ok.in-x.ordered)) (square_rises (gap_drawn pos q.y a.y ok.in-y.ordered)))
+        (add-le-add (square_rises (gap_drawn pos q.x a.x ok.in_x.ordered)) (square_rises (gap_drawn pos q.y a.y ok.in_y.ordered)))
 
     -- the tile of its reporting run is its reporting tile
     pub report_run_tile : report_run g q a / 16 ≡ report_tile g q a

@@ -123,7 +123,7 @@ module _ {g : Grid} {t : Tables} {q : Point} {r tile c₀ : ℕ} {lent₀ : List
 
       pub tile_on : h'.bad ≡ false → length lent' ≡ length lent → TileLeft g t q r tile c₀ lent₀ lent' h' (class + 1)
       tile_on e n = record {
-        left = left_on (good_left (class + 1)) (hits_left (class + 1)) p.left good_next hits_next (s.when-good e);
+        left = left_on (good_left (class + 1)) (hits_left (class + 1)) p.left good_next hits_next (s.when_good e);
         lies = s.lies;
         fine = e;
         few = omega (arith, p.few, s.few);
@@ -133,7 +133,7 @@ module _ {g : Grid} {t : Tables} {q : Point} {r tile c₀ : ℕ} {lent₀ : List
 
       pub tile_bad : h'.bad ≡ true → (l : List ℕ) → JudgedRuns g t q r (allowed_runs g q tile) tile_most c₀ lent₀ (tally 0 true) l
       tile_bad e l = record {
-        when_bad = λ _. left_bad (good_left (class + 1)) p.left good_next (s.when-bad e);
+        when_bad = λ _. left_bad (good_left (class + 1)) p.left good_next (s.when_bad e);
         when_good = λ f. clash f;
         few = omega arith;
       }
@@ -144,9 +144,9 @@ module _ {g : Grid} {t : Tables} {q : Point} {r tile c₀ : ℕ} {lent₀ : List
         → JudgedRuns g t q r (allowed_runs g q tile) tile_most c₀ lent₀ y lent'
     unfolding good_runs
     tile_end k j = record {
-      when_bad = λ e. left_bad (good_left class) p.left refl (j.when-bad e);
+      when_bad = λ e. left_bad (good_left class) p.left refl (j.when_bad e);
       when_good = λ e.
-          left_none (left_on (good_left class) (hits_left class) p.left refl refl (j.when-good e))
+          left_none (left_on (good_left class) (hits_left class) p.left refl refl (j.when_good e))
           (ap (good_runs g t) (runs_none g q tile class k)) (ap (hits_of g t q r) (runs_none g q tile class k));
       few = omega (arith, p.few, p.most, j.few);
     }

@@ -51,14 +51,14 @@ module _ {g : Grid} {reg entries : List ℕ} {q : Point} {r begin past c₀ : �
 
       pub part_on : t.bad ≡ false → length lent' ≡ length lent → PartLeft g reg entries q r begin past c₀ lent₀ lent' t.count (i + 1)
       part_on f s = record {
-        left = left_on (good_entries g reg (part entries (i + 1) past)) (hits_in g reg q r (part entries (i + 1) past)) p.left good_next hits_next (j.when-good f);
+        left = left_on (good_entries g reg (part entries (i + 1) past)) (hits_in g reg q r (part entries (i + 1) past)) p.left good_next hits_next (j.when_good f);
         few = omega (arith, p.few, j.few);
         sized = s ∙ p.sized;
       }
 
       pub part_bad : t.bad ≡ true → (l : List ℕ) → JudgedEntries g reg q r (part entries begin past) (past - begin) c₀ lent₀ t l
       part_bad f l = record {
-        when_bad = λ _. left_bad (good_entries g reg (part entries (i + 1) past)) p.left good_next (j.when-bad f);
+        when_bad = λ _. left_bad (good_entries g reg (part entries (i + 1) past)) p.left good_next (j.when_bad f);
         when_good = λ h. clash (sym f ∙ h);
         few = omega (arith, p.few, j.few);
       }

@@ -82,7 +82,7 @@ module _ {g : Grid} {t : Tables} {q : Point} {r : ℕ} {whole : List ℕ} {piece
       pub pieces_on : y.bad ≡ false → length lent' ≡ length lent → PiecesLeft g t q r whole piece most c₀ lent₀ first last lent' y.count (i + 1)
       pieces_on e s = record {
         whole_is = p.whole_is;
-        left = left_on (good_runs g t (pieces_from piece last (i + 1))) (hits_of g t q r (pieces_from piece last (i + 1))) p.left good_next hits_next (j.when-good e);
+        left = left_on (good_runs g t (pieces_from piece last (i + 1))) (hits_of g t q r (pieces_from piece last (i + 1))) p.left good_next hits_next (j.when_good e);
         few = few_next;
         sized = s ∙ p.sized;
         low = omega (arith, p.low);
@@ -96,7 +96,7 @@ module _ {g : Grid} {t : Tables} {q : Point} {r : ℕ} {whole : List ℕ} {piece
           let v = p.inside in let w = p.small in
           let m : (i + 1 - first) * most ≤ 64 * most = mul-le-mul_right most (omega arith) in
           record {
-            when_bad = λ _. left_bad (good_runs g t (pieces_from piece last (i + 1))) p.left good_next (j.when-bad e);
+            when_bad = λ _. left_bad (good_runs g t (pieces_from piece last (i + 1))) p.left good_next (j.when_bad e);
             when_good = λ f. clash (sym e ∙ f);
             few = omega (arith, few_next);
           }

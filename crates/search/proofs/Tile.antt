@@ -91,9 +91,9 @@ module _ (g : Grid) (t : Tables) (q : Point) (r : ℕ) where
       hold_next b y j =
           let z = good_ends b in
           record {
-            when_bad = λ f. ap (λ (x : Bool). x && good_runs g t (k ∷ [])) (j.when-bad f);
+            when_bad = λ f. ap (λ (x : Bool). x && good_runs g t (k ∷ [])) (j.when_bad f);
             when_good = λ f.
-                left_as (left_on (good_runs g t (k ∷ [])) (hits_of g t q r (k ∷ [])) (left_all _ _ h.count lent₀) refl refl (j.when-good f))
+                left_as (left_on (good_runs g t (k ∷ [])) (hits_of g t q r (k ∷ [])) (left_all _ _ h.count lent₀) refl refl (j.when_good f))
                 (run_good b) (ap (hits_in g t.reg q r) run_is);
             lies = record { ordered = z.0; inside = z.1 };
             few = omega (arith, j.few);

@@ -62,7 +62,7 @@ module _ (g : Grid) (q : Point) (r : ℕ) (ok : Placed g q) (row col : ℕ) (ins
   unfolding allowed_run allowed_in
   mask_allows mask qcol qrow ex ey m tile same = record {
     rule = λ class h.
-        let pos = (good_sizes g ok.sizes).side-pos in
+        let pos = (good_sizes g ok.sizes).side_pos in
         let d : (16 * tile + class) / 16 ≡ tile_no g row col = omega arith in
         let k : (16 * tile + class) % 16 ≡ class = omega arith in
         rw (d, k, column_again g pos row col inside, row_again g pos row col inside, ← ex, ← ey) (m class h);
@@ -116,16 +116,16 @@ module _ {g : Grid} {t : Tables} {q : Point} {r most c : ℕ} {lent : List ℕ} 
       → PiecesLeft g t q r (runs_in g q r (box_row g q r row)) (column_runs g q r row) most c lent first last lent c first
   row_all row e f =
       let s = good_sizes g ok.sizes in
-      let on = (on_grid g q ok.point).x-on in
+      let on = (on_grid g q ok.point).x_on in
       let a = first_last g s r q.x on in
       let b = last_inside g s r q.x on in
-      pieces_all (row_is g q r row ∙ ap₂ (λ (m n : ℕ). each (column_runs g q r row) (from m (n + 1 - m))) (sym e) (sym f)) (omega arith) (omega arith) s.n-most
+      pieces_all (row_is g q r row ∙ ap₂ (λ (m n : ℕ). each (column_runs g q r row) (from m (n + 1 - m))) (sym e) (sym f)) (omega arith) (omega arith) s.n_most
 
   pub box_all : first ≡ first_column g r q.y → last ≡ last_column g r q.y
       → PiecesLeft g t q r (read_runs g q r) (row_runs g q r) most c lent first last lent c first
   box_all e f =
       let s = good_sizes g ok.sizes in
-      let on = (on_grid g q ok.point).y-on in
+      let on = (on_grid g q ok.point).y_on in
       let a = first_last g s r q.y on in
       let b = last_inside g s r q.y on in
-      pieces_all (box_is g q r ok ∙ ap₂ (λ (m n : ℕ). each (row_runs g q r) (from m (n + 1 - m))) (sym e) (sym f)) (omega arith) (omega arith) s.n-most
+      pieces_all (box_is g q r ok ∙ ap₂ (λ (m n : ℕ). each (row_runs g q r) (from m (n + 1 - m))) (sym e) (sym f)) (omega arith) (omega arith) s.n_most

@@ -81,14 +81,14 @@ module _ {g : Grid} {t : Tables} {q : Point} {r : ℕ} {lent₀ lent : List ℕ}
         module _ (d : r ≤ most_radius) {y : Tally} (j : JudgedRuns g t q r (read_runs g q r) box_most 0 lent₀ y lent) where
           pub refused_damage : y.bad ≡ true → Counted g t q r lent₀ (Refused Damage) lent
           unfolding search_verdict
-          refused_damage e = refused Damage (rw (a, b, c, le-ltb most_radius r d, j.when-bad e))
+          refused_damage e = refused Damage (rw (a, b, c, le-ltb most_radius r d, j.when_bad e))
 
           -- ---- accepted
 
           pub accepted : y.bad ≡ false → Counted g t q r lent₀ (Done y.count) lent
           unfolding search_verdict judged radius_hits kept
           accepted e =
-              let p = j.when-good e in
+              let p = j.when_good e in
               let n : y.count ≡ length (radius_hits g t q r) = omega (arith, p.counts) in
               let v : search_verdict g t q r ≡ pass = rw (a, b, c, le-ltb most_radius r d, p.still) in
               record { answer = rw v (ap Done n); first = λ _. p.keeps }
@@ -101,8 +101,8 @@ module _ (g : Grid) (t : Tables) (q : Point) (r : ℕ) where
   unfolding radius_hits kept
   read_again v y out₀ out room j =
       by_bool y.bad
-      (λ e. clash (sym (passed g t q r v).1 ∙ j.when-bad e))
-      (λ e. (j.when-good e).keeps ∙ kept_fits g t.reg q (radius_hits g t q r) out₀ room)
+      (λ e. clash (sym (passed g t q r v).1 ∙ j.when_bad e))
+      (λ e. (j.when_good e).keeps ∙ kept_fits g t.reg q (radius_hits g t q r) out₀ room)
 
   -- ---- the promise
 

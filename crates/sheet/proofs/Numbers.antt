@@ -113,7 +113,7 @@ module _ (bytes lent : List ℕ) (all f : ℕ) (t : GoodText bytes all f) where
   unfolding sheet_register
   register_stands =
       said_part (judged bytes).said lent 2 (2 + 4 * f) (omega arith) (omega (arith, t.some, t.all_said))
-      ∙ ap (λ (k : ℕ). part (judged bytes).said 2 (2 + 4 * k)) (sym t.all-footprints)
+      ∙ ap (λ (k : ℕ). part (judged bytes).said 2 (2 + 4 * k)) (sym t.all_footprints)
 
   pub register_count : count (sheet_register (judged bytes)) ≡ f
   unfolding sheet_register count
@@ -124,12 +124,12 @@ module _ (bytes lent : List ℕ) (all f : ℕ) (t : GoodText bytes all f) where
         length-drop 2 (judged bytes).said,
         t.some,
         t.all_said,
-        t.all-footprints,
+        t.all_footprints,
       )
 
   pub questions_stand : sheet_questions (judged bytes) ≡ in_threes (drop (2 + 4 * f) (judged bytes).said)
   unfolding sheet_questions
-  questions_stand = ap (λ (k : ℕ). in_threes (drop (2 + 4 * k) (judged bytes).said)) t.all-footprints
+  questions_stand = ap (λ (k : ℕ). in_threes (drop (2 + 4 * k) (judged bytes).said)) t.all_footprints
 
   -- the question at a place, and those behind it
   pub question_stands : (i : ℕ) → i + 3 ≤ all

@@ -44,8 +44,8 @@ module _ (g : Grid) (q : Point) (ok : Placed g q) where
   near_footprint reg i e =
       let r = good_rectangle g reg i (good_entry g reg i e).1 in
       let m = coordinates_most g sized in
-      let x = r.in-x in
-      let y = r.in-y in
+      let x = r.in_x in
+      let y = r.in_y in
       record { x = omega arith; y = omega arith }
 
   pub columns : (column g q.x < g.n) × (column g q.y < g.n)
@@ -56,7 +56,7 @@ module _ (g : Grid) (q : Point) (ok : Placed g q) where
   unfolding tile_count
   tile_on tile h =
       let s = sized in
-      (mod-lt tile s.n_pos, (div-lt_iff_lt-mul {k = g.n} {x = tile} {y = g.n} s.n_pos).1 h, square_most g.n s.n-most)
+      (mod-lt tile s.n_pos, (div-lt_iff_lt-mul {k = g.n} {x = tile} {y = g.n} s.n_pos).1 h, square_most g.n s.n_most)
 
 -- a footprint's row
 pub footprint_row : (g : Grid) (reg : List ℕ) (q : Point) (i : ℕ) (a : Rect) (s : ℕ) (t : Three) → a ≡ rectangle g reg i → s ≡ square (point q) a

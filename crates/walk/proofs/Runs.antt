@@ -138,7 +138,7 @@ module _ (g : Grid) (t : Tables) (q : Point) (front₀ out₀ : List ℕ) (head 
       stepped : standing front' out' j r ≡ step (move g t q) (length (rows front₀)) (standing front out j s)
       stepped =
           n.is j (goes_yes s j (length (rows front)) go).1
-          ∙ ap (λ (k : ℕ). step (move g t q) k (standing front out j s)) (same_rows front front₀ p.front-size)
+          ∙ ap (λ (k : ℕ). step (move g t q) k (standing front out j s)) (same_rows front front₀ p.front_size)
 
       on : halted (standing front out j s) ≡ false
       on = let y = goes_yes s j (length (rows front)) go in standing_goes front out j s y.0 y.2 y.1
@@ -150,8 +150,8 @@ module _ (g : Grid) (t : Tables) (q : Point) (front₀ out₀ : List ℕ) (head 
           record {
             inside = n.inside;
             few = omega arith;
-            front_size = lf ∙ p.front-size;
-            out_size = lo ∙ p.out-size;
+            front_size = lf ∙ p.front_size;
+            out_size = lo ∙ p.out_size;
             behind = n.behind ∙ drop_more out out₀ (row_numbers * s.given) (row_numbers * r.given) (omega arith) p.behind;
             is = ap (finish g t q (length (rows front₀))) stepped ∙ sym (finish_step g t q (length (rows front₀)) (standing front out j s) on) ∙ p.is;
           }

@@ -50,7 +50,7 @@ use Rattle.walk.proofs.Moves.{add_all_fits}
 module _ (g : Grid) (q : Point) (ok : Placed g q) where
   -- all its runs are read
   own_read : allowed_runs g q (tile_of g q) ≡ tile_runs (tile_of g q)
-  own_read = own_runs g (sized g q ok).side-pos q (columns g q ok).0
+  own_read = own_runs g (sized g q ok).side_pos q (columns g q ok).0
 
   module _ (t : Tables) (tile : ℕ) (et : tile ≡ tile_of g q) (r : Tally) (j : Judged g t (allowed_runs g q tile) 16 r) where
     own_judged : Judged g t (tile_runs (tile_of g q)) 16 r

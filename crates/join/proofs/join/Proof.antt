@@ -44,8 +44,8 @@ good-s c = not-false _ (sym c.before.bad-side2.ensures ∙ c.if6.false)
 judged : (c : tie.Else6) → Judged c.before.before.before.before.before.before.before.before.before.before.before.before.before.before.before.before.before.before.before.args.g (side-r c.before.before.before.before.before.before.before.before.before.before.before.before.before.before.before.before.before.before.before) (side-s c.before.before.before.before.before.before.before.before.before.before.before.before.before.before.before.before.before.before.before)
 judged c = record {
   sizes = sizes c.before.before.before.before.before.before.before.before.before.before;
-  of-r = record { lengths = lengths-r c.before.before.before.before.before.before.before.before; all-good = good-r c.before.before };
-  of-s = record { lengths = lengths-s c.before.before.before.before.before.before; all-good = good-s c };
+  of_r = record { lengths = lengths-r c.before.before.before.before.before.before.before.before; all_good = good-r c.before.before };
+  of_s = record { lengths = lengths-s c.before.before.before.before.before.before; all_good = good-s c };
 }
 
 bad-sizes-requires : tie.Need-bad-sizes-requires

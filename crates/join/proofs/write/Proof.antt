@@ -26,7 +26,7 @@ all_found : (c : tie.After-all) → c.all.result ≡ length (all-pairs c.before.
 all_found c = found_all _ _ _ _ c.all.ensures
 
 few : (c : tie.After-all) → c.all.result ≤ most_pairs
-few c = let s = c.before.before.before.before.before.before.before.before.before in rw (all_found c) (few_pairs s.args.g (side-r s) (side-s s) s.args.r s.requires.of-r.all-good s.requires.of-s.all-good)
+few c = let s = c.before.before.before.before.before.before.before.before.before in rw (all_found c) (few_pairs s.args.g (side-r s) (side-s s) s.args.r s.requires.of_r.all_good s.requires.of_s.all_good)
 
 slice-aggregate-all : tie.Need-slice-aggregate-all
 slice-aggregate-all c = search rules

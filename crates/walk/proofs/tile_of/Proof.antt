@@ -20,7 +20,7 @@ tile-no-requires c κs =
     let pre = c.before.before.requires in
     let s = sized a.g a.q pre in
     let o = columns a.g a.q pre in
-    (s.n-most, omega (arith, c.before.column.ensures), omega (arith, c.column2.ensures))
+    (s.n_most, omega (arith, c.before.column.ensures), omega (arith, c.column2.ensures))
 
 returns : tie.Need-returns
 unfolding tile_of

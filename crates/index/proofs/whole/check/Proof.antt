@@ -34,7 +34,7 @@ is-built-requires c κs =
     let p = passed c in
     let a = accepted g reg starts p in
     let s = good_sizes g a.sizes in (
-      (s.n_pos, s.n-most, s.side-pos, s.side-most, starts_stand g reg starts p),
+      (s.n_pos, s.n_most, s.side_pos, s.side_most, starts_stand g reg starts p),
       (few_footprints g reg a, accepted_lies g reg starts p),
     )
 

@@ -45,7 +45,7 @@ whole : (s : tie.Start invariant-loop decreases-loop) → join_pairs s.args.g (s
 whole s = join_pairs_law s.args.g (side-r s) (side-s s) s.args.r
 
 few : (s : tie.Start invariant-loop decreases-loop) → 0 + length (join_pairs s.args.g (side-r s) (side-s s) s.args.r) ≤ most_pairs
-few s = omega (arith, few_pairs s.args.g (side-r s) (side-s s) s.args.r s.requires.0.of-r.all-good s.requires.0.of-s.all-good)
+few s = omega (arith, few_pairs s.args.g (side-r s) (side-s s) s.args.r s.requires.0.of_r.all_good s.requires.0.of_s.all_good)
 
 below : (c : tie.In-loop invariant-loop decreases-loop) → c.before.loop.t < tile_count c.before.before.before.before.before.before.before.before.before.before.before.args.g
 unfolding tile_count

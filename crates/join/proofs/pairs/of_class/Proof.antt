@@ -47,7 +47,7 @@ is-run c = c.run-part.ensures
 good-run : (c : tie.After-run-part invariant-loop decreases-loop) → good_entries c.before.before.before.before.before.before.before.before.before.before.args.g c.before.before.before.before.before.before.before.before.before.before.args.reg-r.now c.run-part.result.now ≡ true
 good-run c =
     let s = c.before.before.before.before.before.before.before.before.before.before in
-    rw (is-run c) (run_entries_good s.args.g (side-r s) s.requires.0.of-r c.before.run-no.result (on-grid c.before))
+    rw (is-run c) (run_entries_good s.args.g (side-r s) s.requires.0.of_r c.before.run-no.result (on-grid c.before))
 
 abbrev class-run : tie.Start invariant-loop decreases-loop → List ℕ
 class-run s = run_at (side-r s) (run_no s.args.t s.args.a)
@@ -74,7 +74,7 @@ run-part-requires : tie.Need-run-part-requires invariant-loop decreases-loop
 run-part-requires c κs =
     let s = c.before.before.before.before.before.before.before.before.before in
     let k = c.run-no.result in
-    (run_stands s.args.g (side-r s) s.requires.0.of-r k (on-grid (c)), run_ends_good s.args.g (side-r s) s.requires.0.of-r k (on-grid (c)))
+    (run_stands s.args.g (side-r s) s.requires.0.of_r k (on-grid (c)), run_ends_good s.args.g (side-r s) s.requires.0.of_r k (on-grid (c)))
 
 returns : tie.Need-returns invariant-loop decreases-loop
 returns c =
@@ -92,7 +92,7 @@ of-marked-requires : tie.Need-of-marked-requires invariant-loop decreases-loop
 of-marked-requires c κs =
     let s = c.before.before.before.before.before.before.before.before.before.before.before.before.before.before.before in
     let k = c.before.before in
-    (s.requires.0.sizes, good-run c.before.before.before.before.before, c.before.before.before.box_of.ensures.1, s.requires.0.of-s, s.requires.1, s.requires.2, s.requires.3, s.requires.4, c.before.loop-test.true, range_few (inner c.before.before.before.before.before) 16 (first s) (here k) k.loop.b most_pairs c.before.loop-test.true k.loop.invariant (rw (whole c.before.before.before.before.before) at s.requires.5), s.requires.6)
+    (s.requires.0.sizes, good-run c.before.before.before.before.before, c.before.before.before.box_of.ensures.1, s.requires.0.of_s, s.requires.1, s.requires.2, s.requires.3, s.requires.4, c.before.loop-test.true, range_few (inner c.before.before.before.before.before) 16 (first s) (here k) k.loop.b most_pairs c.before.loop-test.true k.loop.invariant (rw (whole c.before.before.before.before.before) at s.requires.5), s.requires.6)
 
 add-b : tie.Need-overflow-add-b invariant-loop decreases-loop
 add-b c = omega arith

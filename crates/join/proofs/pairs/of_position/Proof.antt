@@ -44,7 +44,7 @@ has-tile-requires : tie.Need-has-tile-requires
 has-tile-requires c κs =
     let s = c.before.before.before.before.before.before.before.before in
     let z = good_sizes s.args.g s.requires.0.sizes in
-    (z.n_pos, z.n-most, s.requires.1, s.requires.2)
+    (z.n_pos, z.n_most, s.requires.1, s.requires.2)
 
 returns : tie.Need-returns
 returns c =
@@ -56,7 +56,7 @@ tile-at-requires : tie.Need-tile-at-requires
 tile-at-requires c κs =
     let s = c.before.before.before.before.before.before.before.before.before.before in
     let z = good_sizes s.args.g s.requires.0.sizes in
-    (z.n_pos, z.n-most, s.requires.1, s.requires.2, there (c))
+    (z.n_pos, z.n_most, s.requires.1, s.requires.2, there (c))
 
 of-tiles-requires : tie.Need-of-tiles-requires
 of-tiles-requires c κs =

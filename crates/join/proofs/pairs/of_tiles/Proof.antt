@@ -46,7 +46,7 @@ whole s = tile_pairs_law s.args.g (side-r s) (side-s s) s.args.r s.args.t s.args
 is-bare-requires : tie.Need-is-bare-requires invariant-loop decreases-loop
 is-bare-requires c κs =
     let s = c.before.before.before.before.before.before.before.before in
-    (omega (arith, tiles_most s.args.g s.requires.0.sizes, s.requires.1), tile_stands s.args.g (side-r s) s.requires.0.of-r s.args.t s.requires.1)
+    (omega (arith, tiles_most s.args.g s.requires.0.sizes, s.requires.1), tile_stands s.args.g (side-r s) s.requires.0.of_r s.args.t s.requires.1)
 
 returns : tie.Need-returns invariant-loop decreases-loop
 returns c =
@@ -57,7 +57,7 @@ returns c =
 is-bare-requires-2 : tie.Need-is-bare-requires-2 invariant-loop decreases-loop
 is-bare-requires-2 c κs =
     let s = c.before.before.before.before.before.before.before.before.before.before in
-    (omega (arith, tiles_most s.args.g s.requires.0.sizes, s.requires.2), tile_stands s.args.g (side-s s) s.requires.0.of-s s.args.u s.requires.2)
+    (omega (arith, tiles_most s.args.g s.requires.0.sizes, s.requires.2), tile_stands s.args.g (side-s s) s.requires.0.of_s s.args.u s.requires.2)
 
 returns-2 : tie.Need-returns-2 invariant-loop decreases-loop
 returns-2 c =

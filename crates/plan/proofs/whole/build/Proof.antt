@@ -27,7 +27,7 @@ need c =
     let g = c.before.before.before.before.before.before.before.before.args.g in
     let reg = words c.before.before.before.before.before.before.before.before.args.reg.now in
     let starts = words c.before.before.before.before.before.before.before.before.args.starts.now in
-    c.total.ensures ∙ need_made g reg (length starts) (lies c.before) (good_sizes g (accepted g reg starts (passed c.before)).sizes).side-pos
+    c.total.ensures ∙ need_made g reg (length starts) (lies c.before) (good_sizes g (accepted g reg starts (passed c.before)).sizes).side_pos
 
 judge-requires : tie.Need-judge-requires
 judge-requires c κs = search rules
@@ -73,7 +73,7 @@ fill-requires c κs =
     let starts = words c.before.before.before.before.before.before.before.before.before.before.before.before.before.args.starts.now in
     let p = passed c.before.before.before.before.before.before in
     let a = accepted g reg starts p in (
-      ((good_sizes g a.sizes).side-pos, few_footprints g reg a, starts_stand g reg starts p),
+      ((good_sizes g a.sizes).side_pos, few_footprints g reg a, starts_stand g reg starts p),
       (lies c.before.before.before.before.before.before, omega (arith, need c.before.before.before.before.before, c.before.before.if1.false, c.before.before.before.count.ensures)),
     )
 

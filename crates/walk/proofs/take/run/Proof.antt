@@ -51,7 +51,7 @@ take-one-requires c κs =
     let a = c.before.before.before.before.before.before.before.before.before.before.before.before.before.args in
     let after-going = c.before.before.before.before in
     let p = pre.1 in
-    let i = loop.invariant.0.out-size in
+    let i = loop.invariant.0.out_size in
     let k = loop.invariant.1 in
     let y = goes_yes loop.s a.j (length (rows loop.front)) (test after-going ∙ c.before.before.before.if1.true) in
     let n = length_rows loop.batch in
@@ -87,10 +87,10 @@ loop-again c =
     )
 
 same_length : tie.Need-same-length invariant-loop decreases-loop
-same_length c = c.before.before.loop.invariant.0.front-size
+same_length c = c.before.before.loop.invariant.0.front_size
 
 same-length-2 : tie.Need-same-length-2 invariant-loop decreases-loop
-same-length-2 c = c.before.before.loop.invariant.0.out-size
+same-length-2 c = c.before.before.loop.invariant.0.out_size
 
 returns : tie.Need-returns invariant-loop decreases-loop
 returns c =
