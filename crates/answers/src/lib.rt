@@ -1,4 +1,5 @@
 // A question of the text program: searched, and its lines put into a lent output.
+#![tactic(auto)]
 
 ghost use Rattle.std.specs.Prelude.{◌≡◌, take};
 ghost use Rattle.laws.specs.Lists.{each};
@@ -11,7 +12,7 @@ use rules::{Answer, Grid, Point};
 use tables::register;
 
 // How many bytes a question's text has, and whether it is a refusal, with which the program ends.
-#[derive(Drop)]
+#[derive(Clone, Copy)]
 pub struct Answered {
     pub length: usize,
     pub refused: bool,

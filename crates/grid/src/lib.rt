@@ -1,4 +1,5 @@
 // Leaves over a grid: sizes, columns and tiles, spans and distances, classes and the sets of them that a search reads.
+#![tactic(auto)]
 
 pub mod marks; // marks.rt: the marks of a join
 pub mod near; // near.rt: what lies within r

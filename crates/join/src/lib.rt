@@ -1,4 +1,5 @@
 // The join of two registers by distance, over lent tables of any origin: judged whole, then counted, then written.
+#![tactic(auto)]
 
 mod judge; // judge.rt: every run and entry of a side
 mod keep; // keep.rt: pairs counted, and laid where they find room

@@ -1,4 +1,5 @@
 // Answers as C has them: the refusal's number, 0 for accepted, and a value, 0 where the rules name none.
+#![tactic(auto)]
 
 ghost use Rattle.std.specs.Prelude.{◌≡◌};
 ghost use Rattle.rules.specs.Refusals.{paper, paper_answer, paper_listed, paper_checked};
@@ -7,7 +8,7 @@ ghost use Rattle.outward.specs.Outward.{outward, mark_no, walk_of};
 use rules::{Answer, Checked, Listed, Refusal, Walk};
 
 // An answer as C has it.
-#[derive(Drop)]
+#[derive(Clone, Copy)]
 pub struct Told {
     pub number: u32,
     pub value: u64,

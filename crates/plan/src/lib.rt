@@ -1,4 +1,5 @@
 // The plan viewer's door: build, check and search from C, over tables in little-endian bytes, read and written where they are lent.
+#![tactic(auto)]
 
 // Derived from the number form (tools/derive), by the same names:
 mod register; // of tables: the register's footprints, and the lengths

@@ -1,5 +1,6 @@
 // Every public function on number slices, for C and C++: the answer is the refusal's number, 0 for accepted, and the value goes through a
 // pointer, as do a run's place and a walk's state. What goes through these pointers is written on every call.
+#![tactic(auto)]
 
 ghost use Rattle.std.specs.Prelude.{◌≡◌, length};
 ghost use Rattle.rules.specs.Build.{builds, checks, run_ends};

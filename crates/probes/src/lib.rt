@@ -1,6 +1,7 @@
 // A list of searches: all radius lists one behind the other, each as the single search has it, and each list's end.
 // Nothing may be written before every probe is judged, so there are two passes: the first lists into arrays of its own, and where these keep all,
 // what they hold is copied; else the probes are searched a second time.
+#![tactic(auto)]
 
 mod listing; // listing.rt: one probe's list, behind the others
 mod copying; // copying.rt: the answer, and what the first pass kept

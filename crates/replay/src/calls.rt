@@ -11,7 +11,7 @@ use vectors::output::{put, put_words};
 pub(crate) const MOST: usize = 4096;
 
 // How many numbers the register, the starts and the entries have.
-#[derive(Drop)]
+#[derive(Clone, Copy)]
 struct Lengths {
     reg: usize,
     starts: usize,

@@ -1,6 +1,7 @@
 // Runs calls that are written as numbers on standard input, and answers each with numbers on standard output.
 // A call is its code and its parameters; a table is its length and its numbers. The answer is the refusal's number, 0 for accepted,
 // and the value, then every lent output table and state as it is afterwards.
+#![tactic(auto)]
 
 mod calls; // calls.rt: the parameters of each call read, and its answer put
 mod walks; // walks.rt: the same for a start and an ask

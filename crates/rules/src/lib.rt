@@ -1,4 +1,5 @@
 // The types and the limits that the promises speak of. The rules about them are the definitions in specs/, their laws stand in proofs/.
+#![tactic(auto)]
 
 // n runs 1..64, side 1..16,384 cm.
 pub const MOST_TILES: u32 = 64;
@@ -19,28 +20,28 @@ pub const MOST_PROBES: usize = 65536;
 pub const HIT_NUMBERS: usize = 1;
 
 // n by n tiles, each side cm wide and high.
-#[derive(Drop)]
+#[derive(Clone, Copy)]
 pub struct Grid {
     pub n: u32,
     pub side: u32,
 }
 
 // The coordinates lo..hi of one dimension, both ends belonging to it.
-#[derive(Drop)]
+#[derive(Clone, Copy)]
 pub struct Span {
     pub lo: u32,
     pub hi: u32,
 }
 
 // A rectangle of coordinate points.
-#[derive(Drop)]
+#[derive(Clone, Copy)]
 pub struct Rect {
     pub x: Span,
     pub y: Span,
 }
 
 // A coordinate point.
-#[derive(Drop)]
+#[derive(Clone, Copy)]
 pub struct Point {
     pub x: u32,
     pub y: u32,
@@ -48,7 +49,7 @@ pub struct Point {
 
 // A search of a list: its point and its radius. C lends such a list, so it lies as C lays it out.
 #[repr(C)]
-#[derive(Drop)]
+#[derive(Clone, Copy)]
 pub struct Probe {
     pub x: u32,
     pub y: u32,
@@ -56,7 +57,7 @@ pub struct Probe {
 }
 
 // Why a call is refused. The definition `paper` gives the numbers 1, 2, 3, 4, 5, 7, 6 and 8, in this order.
-#[derive(Drop)]
+#[derive(Clone, Copy)]
 pub enum Refusal {
     Sizes,
     Lengths,
@@ -72,7 +73,7 @@ pub enum Refusal {
 }
 
 // Done holds the entries built, the hits, the pairs or the rows given; of a start, 0.
-#[derive(Drop)]
+#[derive(Clone, Copy)]
 pub enum Answer {
     Done(u64),
     Refused(Refusal),
@@ -80,14 +81,14 @@ pub enum Answer {
 
 // What a list of searches answers. Done holds the numbers written in all, At a refusal and the index of the probe that meets it, 0 where it is
 // of the sizes or the lengths, and Refused the one for room.
-#[derive(Drop)]
+#[derive(Clone, Copy)]
 pub enum Listed {
     Done(u64),
     At(Refusal, u32),
     Refused(Refusal),
 }
 
-#[derive(Drop)]
+#[derive(Clone, Copy)]
 pub enum Checked {
     Yes,
     No,
@@ -95,13 +96,13 @@ pub enum Checked {
 }
 
 // Where a run begins and ends among the entries.
-#[derive(Drop)]
+#[derive(Clone, Copy)]
 pub enum Ends {
     At(usize, usize),
     Refused(Refusal),
 }
 
-#[derive(Drop)]
+#[derive(Clone, Copy)]
 pub enum Direction {
     Up,
     Right,
@@ -110,7 +111,7 @@ pub enum Direction {
 }
 
 // A group of some direction and level, a tile, or a footprint.
-#[derive(Drop)]
+#[derive(Clone, Copy)]
 pub enum Item {
     Group(Direction, u32),
     Tile(u32),
@@ -118,14 +119,14 @@ pub enum Item {
 }
 
 // What is taken off the front.
-#[derive(Drop)]
+#[derive(Clone, Copy)]
 pub struct Row {
     pub square: u64,
     pub item: Item,
 }
 
 // A waiting row as it lies in memory.
-#[derive(Drop)]
+#[derive(Clone, Copy)]
 pub struct Three {
     pub square: u64,
     pub kind: u64,
@@ -133,14 +134,14 @@ pub struct Three {
 }
 
 // What three numbers stand for, if anything.
-#[derive(Drop)]
+#[derive(Clone, Copy)]
 pub enum Read {
     Known(Row),
     Unknown,
 }
 
 // The state of a walk: its point, how many rows wait, and the damage mark.
-#[derive(Drop)]
+#[derive(Clone, Copy)]
 pub struct Walk {
     pub x: u32,
     pub y: u32,
@@ -149,7 +150,7 @@ pub struct Walk {
 }
 
 // A start's or an ask's answer, and the state after it.
-#[derive(Drop)]
+#[derive(Clone, Copy)]
 pub struct Walked {
     pub answer: Answer,
     pub walk: Walk,

@@ -2,6 +2,7 @@
 // What it costs: a tile of the square's box, its square; a tile that is visited, two divisions and its sixteen classes, with two starts for
 // each that is allowed; an entry, one reading of its footprint's four numbers, for damage and distance. Neighbouring allowed classes are
 // read as one part of the entries. Entries are read a second time only where the hits do not fit the array that keeps the first.
+#![tactic(auto)]
 
 mod scan; // scan.rt: entries, one after the other
 mod runs; // runs.rt: a tile, and the runs of its allowed classes
@@ -22,14 +23,14 @@ pub const KEPT: usize = 64;
 pub const KEPT_WIDE: usize = 2048;
 
 // The hits found so far, or damage.
-#[derive(Drop)]
+#[derive(Clone, Copy)]
 pub struct Tally {
     pub count: usize,
     pub bad: bool,
 }
 
 // The hits found so far, and a part of the entries that is held back to be read with its neighbours; or damage.
-#[derive(Drop)]
+#[derive(Clone, Copy)]
 pub struct Held {
     pub begin: usize,
     pub past: usize,

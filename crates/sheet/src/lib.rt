@@ -1,4 +1,6 @@
 // The text register: judged, read and printed, on slices.
+#![tactic(auto)]
+
 mod decimals;
 mod judging;
 mod lines;
@@ -10,14 +12,14 @@ pub use print::{put_decimal, put_found, put_hit, put_line, put_refusal};
 use rules::Refusal;
 
 // A decimal: its number, and the place behind its digits.
-#[derive(Drop)]
+#[derive(Clone, Copy)]
 pub enum Number {
     Decimal(u32, usize),
     Bad,
 }
 
 // The key of a line; Start stands before the first.
-#[derive(Drop)]
+#[derive(Clone, Copy)]
 pub enum Key {
     Start,
     Tiles,
@@ -32,21 +34,21 @@ pub enum Key {
 }
 
 // A bad line, or its key, its number and the place behind it.
-#[derive(Drop)]
+#[derive(Clone, Copy)]
 pub enum Line {
     Bad,
     Says(Key, u32, usize),
 }
 
 // A text judged: how many numbers it says and how many footprints they have, or why it is refused.
-#[derive(Drop)]
+#[derive(Clone, Copy)]
 pub enum Sheet {
     Good(usize, u32),
     Refused(Refusal),
 }
 
 // Whether a good text keeps the program's limits.
-#[derive(Drop)]
+#[derive(Clone, Copy)]
 pub enum Limits {
     Within,
     Refused(Refusal),

@@ -1,4 +1,5 @@
 // The lent tables read and judged: the register and its footprints, the starts, and a run as a part of the entries.
+#![tactic(auto)]
 
 pub mod register; // register.rt: the register's footprints, and the lengths
 

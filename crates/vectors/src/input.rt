@@ -26,14 +26,14 @@ const MOST_WORD: u64 = 4294967295;
 
 pub const MOST_LONG: u64 = 18446744073709551615;
 
-#[derive(Drop)]
+#[derive(Clone, Copy)]
 enum Step {
     Byte(u8),
     End,
 }
 
 // A number with one digit more.
-#[derive(Drop)]
+#[derive(Clone, Copy)]
 pub enum Pushed {
     Longer(u64),
     Bad,

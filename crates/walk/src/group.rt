@@ -14,7 +14,7 @@ use crate::batch::{Fill, add, spoil};
 use rules::{Direction, Grid, Item, Point, Row, Span, Three};
 
 // Tiles whose numbers lie the same way apart: the first, how far apart, and how many.
-#[derive(Drop)]
+#[derive(Clone, Copy)]
 pub(crate) struct Tiles {
     pub(crate) start: u32,
     pub(crate) apart: u32,

@@ -1,4 +1,5 @@
 // The walk outward from a point, over lent tables and a lent front: start and ask.
+#![tactic(auto)]
 
 mod batch; // batch.rt: new rows gathered in order, and merged into the waiting rows
 mod tile; // tile.rt: a tile's runs judged, and its footprints

@@ -17,7 +17,7 @@ use rules::{Direction, Grid, Item, Point, Read};
 pub(crate) const ROW_NUMBERS: usize = 2;
 
 // Where the waiting rows begin, how many rows are given, and whether damage is met.
-#[derive(Drop)]
+#[derive(Clone, Copy)]
 pub(crate) struct At {
     pub(crate) head: usize,
     pub(crate) given: usize,

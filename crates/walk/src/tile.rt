@@ -16,7 +16,7 @@ use rules::{Grid, Item, Point, Row, Three};
 use tables::register;
 
 // How many entries the runs have, and whether they are damaged.
-#[derive(Drop)]
+#[derive(Clone, Copy)]
 pub(crate) struct Tally {
     pub(crate) count: usize,
     pub(crate) bad: bool,

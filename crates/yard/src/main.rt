@@ -1,6 +1,7 @@
 // The text program: a register and its questions come from standard input, and what lies near each question goes to standard output.
 // The text is judged whole, then the limits, then the build; each question's lines are printed when it is answered. A refusal is printed
 // and ends the program.
+#![tactic(auto)]
 
 ghost use Rattle.std.specs.Prelude.{◌+◌, ◌*◌, ◌≤◌, length};
 

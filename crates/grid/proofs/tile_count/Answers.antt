@@ -1,0 +1,8 @@
+-- `grid::tile_count` meets its contract. Assumes nothing.
+use Rattle.rules.specs.Sizes.{tile_count}
+use borrow.Author.Rules.{rules}
+use Rattle.grid.proofs.tile_count.Goals as goal
+
+pub returns : goal.returns
+unfolding tile_count
+returns c = c.product.ensures.0

@@ -1,0 +1,30 @@
+-- `index::compare::is_run` meets its contract: one pass that stops at the first entry that is not right. Assumes nothing.
+use borrow.Author.Rules.{rules}
+use mathlib.Core.Path.{◌≡◌, sym, ap, ◌∙◌}
+use mathlib.Core.Bool.{Bool}
+use mathlib.Core.List.{List}
+use Prim.Native.Nat.{ℕ, ◌-◌, ◌/◌, ◌%◌, ◌<◌}
+use lib.ListN.{length, get_or}
+use borrow.Author.Tests.{not-true, not-false, le-ltb, lt-ltb}
+use Rattle.laws.specs.Rising.{below}
+use Rattle.laws.proofs.Scans.{Rises, rises_all, falls, fails, rises_on, rises_out}
+use Rattle.laws.proofs.Tests.{both_true}
+use Rattle.rules.specs.Register.{count}
+use Rattle.rules.specs.Tables.{stands}
+use Rattle.rules.specs.declared.Grid.{Grid}
+use Rattle.index.specs.Check.{stands_at, is_run}
+use Rattle.index.proofs.Right.{stands_at_law, tile_on}
+use native.Mathlib.Omega.{arith}
+-- the run's tile is on the grid
+-- the entry that is read
+-- whether it stands there
+use Rattle.index.proofs.compare.is_run.Given as goal
+
+abbrev pub passes : Grid → List ℕ → ℕ → ℕ → Bool
+passes g reg k = below (count reg) (stands g reg k)
+
+abbrev pub invariant-loop-j : goal.invariant-loop-j
+invariant-loop-j l = Rises (passes l.g l.reg l.k) l.run l.least l.j
+
+abbrev pub decreases-loop-j : goal.decreases-loop-j
+decreases-loop-j l = length l.run - l.j

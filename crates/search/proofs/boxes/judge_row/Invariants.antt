@@ -1,0 +1,23 @@
+-- `search::boxes::judge_row` meets its contract: what is left of the row, column by column. Assumes nothing.
+use borrow.Author.Rules.{rules}
+use mathlib.Core.Path.{◌≡◌, refl, ◌∙◌}
+use Prim.Native.Nat.{◌+◌, ◌-◌}
+use lib.ListN.{length}
+use Rattle.rules.specs.Distance.{point}
+use Rattle.rules.specs.Tables.{tables}
+use Rattle.rules.specs.Box.{box_row}
+use Rattle.rules.proofs.Good.{good_sizes}
+use Rattle.search.specs.Reading.{tile_most, runs_in}
+use Rattle.search.proofs.Entries.{near_point}
+use Rattle.search.proofs.Pieces.{PiecesLeft, pieces_on, pieces_bad, pieces_end}
+use Rattle.search.proofs.Tiles.{column_runs, row_all}
+use Rattle.numbers.proofs.Laws.{same_count}
+use native.Mathlib.Omega.{arith}
+use Rattle.search.proofs.boxes.judge_row.Given as goal
+
+abbrev pub invariant-loop-col : goal.invariant-loop-col
+invariant-loop-col l =
+    PiecesLeft l.g (tables l.reg l.starts l.entries) l.q l.r (runs_in l.g l.q l.r (box_row l.g l.q l.r l.row)) (column_runs l.g l.q l.r l.row) tile_most l.count l.initial.lent l.first l.last l.lent l.found l.col × (length l.lent ≡ length l.initial.lent)
+
+abbrev pub decreases-loop-col : goal.decreases-loop-col
+decreases-loop-col l = l.last + 1 - l.col
