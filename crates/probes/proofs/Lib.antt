@@ -1,8 +1,7 @@
-pub mod Again
-pub mod Arrays
 pub mod Behind
 pub mod Passes
 pub mod Answers
 pub mod Notes
 pub mod Searched
 pub mod Settled
+pub mod Turns

@@ -3,10 +3,7 @@ use mathlib.Core.Path.{◌≡◌, refl, sym}
 use mathlib.Core.Bool.{Bool, true, false}
 use mathlib.Core.List.{List, [], ◌∷◌}
 use Prim.Native.Nat.{ℕ, ◌+◌, ◌*◌}
-use types.Run.{OneOf, miss}
-use denote.Enum.Declared.{tag_of}
 use Rattle.laws.proofs.Tests.{clash}
-use Rattle.rules.specs.contracts.Refusal as refusal
 use Rattle.rules.specs.Search.{hit_numbers}
 use Rattle.rules.specs.declared.Answer.{Answer}
 use Rattle.rules.specs.declared.Answer.TheVariants as answered
@@ -15,10 +12,6 @@ use Rattle.rules.specs.declared.Refusal.TheVariants.{Sizes, Lengths, Footprint, 
 use Rattle.rules.specs.declared.Listed.{Listed}
 use Rattle.rules.specs.declared.Listed.TheVariants.{Done, At}
 use Rattle.probes.specs.Listing.{ended_at, note_refused, note, need_of}
-
--- the tags of all refusals but that for room
-abbrev others : List ℕ
-others = 0 ∷ 1 ∷ 2 ∷ 3 ∷ 4 ∷ 5 ∷ 7 ∷ []
 
 -- a refusal that is not for room
 abbrev pub plain : Refusal → Bool
@@ -31,15 +24,15 @@ plain Damage = true
 plain (Room need) = false
 plain (Text line) = true
 
-others_plain : (why : Refusal) → OneOf others (tag_of refusal.the_type why) → plain why ≡ true
-others_plain Sizes k = refl
-others_plain Lengths k = refl
-others_plain (Footprint n) k = refl
-others_plain Place k = refl
-others_plain Radius k = refl
-others_plain Damage k = refl
-others_plain (Room need) k = absurd (miss others 6 tt k)
-others_plain (Text line) k = refl
+not_room_plain : (why : Refusal) → ((need : ℕ) → why ≡ Room need → ⊥) → plain why ≡ true
+not_room_plain Sizes k = refl
+not_room_plain Lengths k = refl
+not_room_plain (Footprint n) k = refl
+not_room_plain Place k = refl
+not_room_plain Radius k = refl
+not_room_plain Damage k = refl
+not_room_plain (Room need) k = absurd (k need refl)
+not_room_plain (Text line) k = refl
 
 -- it counts no numbers
 pub plain_needs : (why : Refusal) → plain why ≡ true → need_of why ≡ 0
@@ -76,6 +69,6 @@ module _ (total : ℕ) (a : Answer) (i : ℕ) (ends : List ℕ) where
       go (Room need) k = clash (sym k)
       go (Text line) k = refl
 
-  pub note_other : (why : Refusal) → a ≡ answered.Refused why → OneOf others (tag_of refusal.the_type why)
+  pub note_other : (why : Refusal) → a ≡ answered.Refused why → ((need : ℕ) → why ≡ Room need → ⊥)
       → ◌≡◌ {A = Listed × List ℕ} (At why i, ends) (note total a i ends)
-  note_other why e k = note_plain why e (others_plain why k)
+  note_other why e k = note_plain why e (not_room_plain why k)

@@ -1,0 +1,13 @@
+-- `probes::copying::copy_lists` meets its contract: number by number from the front. Assumes nothing.
+use mathlib.Core.Path.{◌≡◌, refl}
+use Prim.Native.Nat.{◌-◌}
+use native.Mathlib.Omega.{arith}
+use lib.ListN.{length}
+use Rattle.search.proofs.Copies.{Copied, copied_none, copied_one, copied_all}
+use Rattle.probes.proofs.copying.copy_lists.Given as goal
+
+abbrev pub invariant-loop-i : goal.invariant-loop-i
+invariant-loop-i l = Copied l.list l.initial.out l.count l.out l.i × (length l.out ≡ length l.initial.out)
+
+abbrev pub decreases-loop-i : goal.decreases-loop-i
+decreases-loop-i l = l.count - l.i
