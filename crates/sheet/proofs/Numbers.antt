@@ -27,7 +27,7 @@ never r count f e = let z : ◌≡◌ {A = ℕ} 0 1 = cc in absurd (not-suc-le-z
 pub record GoodText (bytes : List ℕ) (count f : ℕ) : Type 0 where
   pub good : (judged bytes).verdict ≡ pass
   pub all_said : length (judged bytes).said ≡ count
-  pub all_footprints_law : (judged bytes).footprints ≡ f
+  pub all_footprints : (judged bytes).footprints ≡ f
   pub some : 2 + 4 * f ≤ count
   pub few : count ≤ most_numbers
 
@@ -50,7 +50,7 @@ good_text bytes numbers count f e =
     record {
       good = g.0;
       all_said = g.1;
-      all_footprints_law = g.2;
+      all_footprints = g.2;
       some = omega (arith, footprints_said bytes g.0, g.1, g.2);
       few = omega (arith, numbers_enough bytes, g.1);
     })

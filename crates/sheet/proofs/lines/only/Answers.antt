@@ -1,0 +1,24 @@
+-- `lines::only` meets its contract. Assumes nothing.
+use mathlib.Core.Path.{sym, ◌∙◌}
+use mathlib.Core.List.{[]}
+use Rattle.sheet.specs.Places.{key_of, read_at}
+use Rattle.sheet.proofs.Words.{no_key, some_key}
+use native.Mathlib.Omega.{arith}
+use borrow.Author.Rules.{rules}
+use Rattle.sheet.proofs.lines.only.Goals as goal
+
+pub returns-then-length-eq0 : goal.returns-then-length-eq0
+unfolding read_at
+returns-then-length-eq0 c =
+    let a = c.args in
+    sym (no_key (key_of a.key) [] a.text.now a.at c.requires (sym c.key_at-length.ensures ∙ c.if-length-eq0.true))
+
+pub overflow_add-at : goal.overflow_add-at
+overflow_add-at c =
+    let a = c.args in
+    omega (arith, (some_key (key_of a.key) [] a.text.now a.at c.key_at-length.result c.key_at-length.ensures c.if-length-eq0.false).0)
+
+pub returns : goal.returns
+returns c =
+    let a = c.args in
+    c.number_line.ensures ∙ (some_key (key_of a.key) [] a.text.now a.at c.key_at-length.result c.key_at-length.ensures c.if-length-eq0.false).1
