@@ -142,27 +142,27 @@ module _ {g : Grid} {reg : List ℕ} {q : Point} (S : Around g reg q) where
   pub rest_after : (j c : ℕ) (l : List Item) → RestOf g reg q c l → RestOf g reg q (placed j c l) (left_after j l)
   rest_after zero c l R = R
   rest_after (suc j) c [] R = R
-  rest_after (suc j) c (Group d m ∷ l) R = rest_after (suc j) _ l (next c (Group d m) l R)
-  rest_after (suc j) c (Tile t ∷ l) R = rest_after (suc j) _ l (next c (Tile t) l R)
-  rest_after (suc j) c (Footprint i ∷ l) R = rest_after j _ l (next c (Footprint i) l R)
+  rest_after (suc j) c (Group d m ∷ l) R = rest_after (suc j) (key g reg q (Group d m)) l (next c (Group d m) l R)
+  rest_after (suc j) c (Tile t ∷ l) R = rest_after (suc j) (key g reg q (Tile t)) l (next c (Tile t) l R)
+  rest_after (suc j) c (Footprint i ∷ l) R = rest_after j (key g reg q (Footprint i)) l (next c (Footprint i) l R)
 
   not_back : (j c : ℕ) (l : List Item) → RestOf g reg q c l → c ≤ placed j c l
   not_back zero c l R = le_refl c
   not_back (suc j) c [] R = le_refl c
-  not_back (suc j) c (Group d m ∷ l) R = le_trans (le_of_lt R.up.0) (not_back (suc j) _ l (next c (Group d m) l R))
-  not_back (suc j) c (Tile t ∷ l) R = le_trans (le_of_lt R.up.0) (not_back (suc j) _ l (next c (Tile t) l R))
-  not_back (suc j) c (Footprint i ∷ l) R = le_trans (le_of_lt R.up.0) (not_back j _ l (next c (Footprint i) l R))
+  not_back (suc j) c (Group d m ∷ l) R = le_trans (le_of_lt R.up.0) (not_back (suc j) (key g reg q (Group d m)) l (next c (Group d m) l R))
+  not_back (suc j) c (Tile t ∷ l) R = le_trans (le_of_lt R.up.0) (not_back (suc j) (key g reg q (Tile t)) l (next c (Tile t) l R))
+  not_back (suc j) c (Footprint i ∷ l) R = le_trans (le_of_lt R.up.0) (not_back j (key g reg q (Footprint i)) l (next c (Footprint i) l R))
 
   -- a footprint that was handed out lies at or before the place reached
   pub handed_before : (j c : ℕ) (l : List Item) → RestOf g reg q c l → (i : ℕ) → Memᴰ i (take j (footprints_in l))
       → key g reg q (Footprint i) ≤ placed j c l
   handed_before zero c l R i m = absurd (Memᴰ.not-nil m)
   handed_before (suc j) c [] R i m = absurd (Memᴰ.not-nil m)
-  handed_before (suc j) c (Group d k ∷ l) R i m = handed_before (suc j) _ l (next c (Group d k) l R) i m
-  handed_before (suc j) c (Tile t ∷ l) R i m = handed_before (suc j) _ l (next c (Tile t) l R) i m
-  handed_before (suc j) c (Footprint k ∷ l) R i m = go (Memᴰ.cases_cons m) (λ n. handed_before j _ l (next c (Footprint k) l R) i n)
+  handed_before (suc j) c (Group d k ∷ l) R i m = handed_before (suc j) (key g reg q (Group d k)) l (next c (Group d k) l R) i m
+  handed_before (suc j) c (Tile t ∷ l) R i m = handed_before (suc j) (key g reg q (Tile t)) l (next c (Tile t) l R) i m
+  handed_before (suc j) c (Footprint k ∷ l) R i m = go (Memᴰ.cases_cons m) (λ n. handed_before j (key g reg q (Footprint k)) l (next c (Footprint k) l R) i n)
     where
       go : (i ≡ k) ⊎ Memᴰ i (take j (footprints_in l)) → (Memᴰ i (take j (footprints_in l)) → key g reg q (Footprint i) ≤ placed j (key g reg q (Footprint k)) l)
           → key g reg q (Footprint i) ≤ placed j (key g reg q (Footprint k)) l
-      go (inl e) below = le_trans (le_of_eq (ap (λ (n : ℕ). key g reg q (Footprint n)) e)) (not_back j _ l (next c (Footprint k) l R))
+      go (inl e) below = le_trans (le_of_eq (ap (λ (n : ℕ). key g reg q (Footprint n)) e)) (not_back j (key g reg q (Footprint k)) l (next c (Footprint k) l R))
       go (inr n) below = below n
