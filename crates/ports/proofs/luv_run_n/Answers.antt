@@ -1,0 +1,23 @@
+-- `ports::luv_run_n` meets its contract: the ends that were told, as a place and a length. Assumes nothing.
+use mathlib.Core.Path.{◌≡◌, sym, ap, ◌∙◌}
+use Prim.Native.Nat.{◌≤◌}
+use lib.ListN.{length}
+use Rattle.rules.specs.Refusals.{paper_ends}
+use Rattle.rules.specs.Build.{run_ends}
+use Rattle.rules.specs.declared.Ends.TheVariants.{At}
+use Rattle.tables.proofs.Runs.{part_good}
+use Rattle.outward.proofs.Tell.{run_at, run_refused}
+use borrow.Author.Rules.{rules}
+use Rattle.ports.proofs.luv_run_n.Goals as goal
+
+pub overflow_sub-value : goal.overflow_sub-value
+overflow_sub-value c =
+    let a = c.args in
+    (part_good _ a.starts.now a.entries.now a.tile a.class a.entries.ref_ptr _ _ c.in-At.ensures).0
+
+pub returns-in-At : goal.returns-in-At
+returns-in-At c = run_at _ _ _ c.in-At.ensures
+
+pub returns-in-Refused : goal.returns-in-Refused
+unfolding paper_ends
+returns-in-Refused c = run_refused _ c.in-Refused.why _ c.told_refusal.ensures c.in-Refused.ensures
