@@ -11,7 +11,7 @@ use Rattle.laws.proofs.Tests.{fst_true, snd_true, both_true}
 use Rattle.laws.proofs.Members.{mem_filter, filter_mem, each_mem, mem_each}
 use Rattle.laws.proofs.Ranges.{mem_from, from_mem}
 use Rattle.laws.proofs.Apart.{Apart, self, apart_filter, apart_each, apart_map}
-use Rattle.rules.specs.Classes.{class_of, allowed}
+use Rattle.rules.specs.Classes.{class_of}
 use Rattle.rules.specs.Register.{count, footprints, rectangle}
 use Rattle.rules.specs.Tables.{run_no, tile_runs, stands, built_run}
 use Rattle.rules.specs.Search.{allowed_run, allowed_runs, report_run}

@@ -1,7 +1,7 @@
 -- One row stored behind others. Assumes nothing.
 use mathlib.Core.Path.{◌≡◌}
 use mathlib.Core.List.{List, [], ◌∷◌, ◌++◌, append_assoc}
-use Prim.Native.Nat.{ℕ, suc, ◌+◌, ◌-◌, ◌<◌}
+use Prim.Native.Nat.{ℕ, suc, ◌<◌}
 use lib.ListN.{length, set, take}
 use lib.Seq.{take-suc-set}
 use Rattle.rules.specs.declared.Three.{Three}

@@ -1,7 +1,7 @@
 -- A search's answer noted: what it wrote, or would write had it found room, and its refusals. Assumes nothing.
 use mathlib.Core.Path.{◌≡◌, refl, sym}
 use mathlib.Core.Bool.{Bool, true, false}
-use mathlib.Core.List.{List, [], ◌∷◌}
+use mathlib.Core.List.{List}
 use Prim.Native.Nat.{ℕ, ◌+◌, ◌*◌}
 use Rattle.laws.proofs.Tests.{clash}
 use Rattle.rules.specs.Search.{hit_numbers}
@@ -10,7 +10,7 @@ use Rattle.rules.specs.declared.Answer.TheVariants as answered
 use Rattle.rules.specs.declared.Refusal.{Refusal}
 use Rattle.rules.specs.declared.Refusal.TheVariants.{Sizes, Lengths, Footprint, Place, Radius, Damage, Room, Text}
 use Rattle.rules.specs.declared.Listed.{Listed}
-use Rattle.rules.specs.declared.Listed.TheVariants.{Done, At}
+use Rattle.rules.specs.declared.Listed.TheVariants.{At}
 use Rattle.probes.specs.Listing.{ended_at, note_refused, note, need_of}
 
 -- a refusal that is not for room

@@ -1,10 +1,10 @@
 -- Bytes and the numbers that they hold are the same: nothing is lost either way. Assumes nothing.
-use mathlib.Core.Path.{◌≡◌, refl, sym, ap, ap₂, ◌∙◌}
+use mathlib.Core.Path.{◌≡◌, refl, ap, ap₂, ◌∙◌}
 use mathlib.Core.List.{List, [], ◌∷◌}
-use Prim.Native.Nat.{ℕ, zero, suc, ◌+◌, ◌*◌, ◌/◌, ◌%◌, ◌<◌, ◌^◌}
+use Prim.Native.Nat.{ℕ, suc, ◌+◌, ◌*◌, ◌/◌, ◌%◌, ◌<◌}
 use native.Mathlib.Omega.{arith}
 use lib.ListN.{length, get_or}
-use Rattle.rules.specs.Bytes.{words, bytes_of, bytes}
+use Rattle.rules.specs.Bytes.{words, bytes}
 
 -- every number of a list is below m
 abbrev pub Below : ℕ → List ℕ → Type 0

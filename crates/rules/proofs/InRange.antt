@@ -8,7 +8,7 @@ use native.Mathlib.Omega.{arith}
 use Rattle.laws.proofs.Numbers.{square_rises}
 use Rattle.rules.specs.Sizes.{most_tiles, bad_sizes, bad_point, column, tile_count}
 use Rattle.rules.specs.Front.{row, decoded}
-use Rattle.rules.specs.Walk.{exists, group_exists, square_of, waiting_row}
+use Rattle.rules.specs.Walk.{group_exists, square_of, waiting_row}
 use Rattle.rules.specs.declared.Grid.{Grid}
 use Rattle.rules.specs.declared.Point.{Point}
 use Rattle.rules.specs.declared.Direction.{Direction}

@@ -2,7 +2,7 @@
 -- Document 01, "Join". Assumes nothing.
 use Rattle.std.specs.Prelude.{Bool, ◌&&◌, List, [], ◌∷◌, ℕ, ◌+◌, ◌-◌, ◌/◌, ◌%◌, max, min, leb}
 use Rattle.rules.specs.Sizes.{tile_no, row_of, column_of}
-use Rattle.rules.specs.Span.{span, after}
+use Rattle.rules.specs.Span.{span}
 use Rattle.rules.specs.Register.{rectangle}
 use Rattle.rules.specs.declared.Grid.{Grid}
 use Rattle.rules.specs.declared.Rect.{Rect}

@@ -19,7 +19,6 @@ use Rattle.rules.specs.Text.{lf, lines, digits, after_digits, value, is_decimal,
 use Rattle.rules.specs.Refusals.{refuse}
 use Rattle.rules.specs.declared.Refusal.TheVariants.{Text}
 use Rattle.sheet.specs.Places.{key_of, coded, decimal_at, numbered_at, read_at}
-use Rattle.sheet.specs.declared.Number.TheVariants as number
 use Rattle.sheet.specs.declared.Key.{Key}
 use Rattle.sheet.specs.declared.Line.{Line}
 use Rattle.sheet.specs.declared.Line.TheVariants.{Bad, Says}

@@ -1,6 +1,6 @@
 // A line of a text, read at a place.
 ghost use Rattle.std.specs.Prelude.{◌≡◌, [], ◌∷◌, ◌<◌, length};
-ghost use Rattle.rules.specs.Text.{word as Text·word, follow, may_end, ends_footprint};
+ghost use Rattle.rules.specs.Text.{word as text_word, follow, may_end, ends_footprint};
 ghost use Rattle.sheet.specs.Places.{key_of, word_at, numbered_at, read_at};
 
 use crate::decimals::number_at;
@@ -27,7 +27,7 @@ fn word_at(text: &[u8], at: usize, word: &[u8]) -> usize
 
 // The same for the word of a key.
 fn key_at(text: &[u8], at: usize, key: Key) -> usize
-    ensures { result ≡ word_at (Text·word (key_of key)) text.now at }
+    ensures { result ≡ word_at (text_word (key_of key)) text.now at }
 {
     match key {
         Key::Start => 0,
@@ -63,7 +63,7 @@ fn number_line(text: &[u8], at: usize, key: Key) -> Line
 
 // The line at a place, under one key.
 fn only(text: &[u8], at: usize, key: Key) -> Line
-    requires { 0 < length (Text·word (key_of key)) }
+    requires { 0 < length (text_word (key_of key)) }
     ensures { result ≡ read_at (key_of key ∷ []) text.now at }
 {
     let length = key_at(text, at, key);
@@ -75,8 +75,8 @@ fn only(text: &[u8], at: usize, key: Key) -> Line
 
 // The line at a place, under either of two keys.
 fn either(text: &[u8], at: usize, one: Key, other: Key) -> Line
-    requires nonzero { 0 < length (Text·word (key_of one)) }
-    requires nonzero_2 { 0 < length (Text·word (key_of other)) }
+    requires nonzero { 0 < length (text_word (key_of one)) }
+    requires nonzero_2 { 0 < length (text_word (key_of other)) }
     ensures { result ≡ read_at (key_of one ∷ key_of other ∷ []) text.now at }
 {
     let length = key_at(text, at, one);

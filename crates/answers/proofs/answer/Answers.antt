@@ -2,7 +2,6 @@
 use Rattle.rules.specs.Tables.{tables}
 use Rattle.answers.specs.Answers.{asked}
 use Rattle.answers.proofs.Hits.{hits_named, done_answers, refused_answers}
-use borrow.Author.Rules.{rules}
 use Rattle.answers.proofs.answer.Goals as goal
 
 pub put_hits-requires : goal.put_hits-requires

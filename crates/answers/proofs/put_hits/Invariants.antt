@@ -1,13 +1,11 @@
 -- `answers::put_hits` meets its contract. The invariant: what is left of the hits, put behind what stands, is the whole. Assumes nothing.
-use mathlib.Core.Path.{◌≡◌, refl, sym, ◌∙◌}
+use mathlib.Core.Path.{◌≡◌}
 use Prim.Native.Nat.{◌-◌}
 use lib.ListN.{length, take, drop}
 use Rattle.laws.specs.Lists.{each}
 use Rattle.rules.specs.Text.{hit_of}
 use Rattle.sheet.specs.Put.{puts}
 use Rattle.answers.specs.Answers.{asked}
-use Rattle.answers.proofs.Hits.{hits_step, hits_end}
-use native.Mathlib.Omega.{arith}
 use Rattle.answers.proofs.put_hits.Given as goal
 
 abbrev pub invariant-loop-i : goal.invariant-loop-i

@@ -9,7 +9,6 @@ use Rattle.sheet.specs.Put.{puts}
 use Rattle.answers.specs.Answers.{asked}
 use Rattle.answers.proofs.Hits.{hit_stands, point_near, hit_near, hit_is}
 use native.Mathlib.Omega.{arith}
-use borrow.Author.Rules.{rules}
 -- what was read is the hit's rectangle
 use Rattle.answers.proofs.put_one.Goals.{After-footprint-a}
 use Rattle.answers.proofs.put_one.Goals as goal

@@ -3,7 +3,6 @@ use Rattle.rules.specs.Span.{place}
 use Rattle.rules.specs.Classes.{is_set, allowed}
 use Rattle.grid.proofs.Masks.{mask_of, sets, set_read}
 use native.Mathlib.Omega.{arith}
-use borrow.Author.Rules.{rules}
 use Rattle.grid.proofs.allowed_mask.Goals as goal
 
 pub offset_bounds-y : goal.offset_bounds-y

@@ -1,7 +1,6 @@
 -- `grid::bad_point` meets its contract. Assumes nothing.
 use mathlib.Core.Path.{sym, ◌∙◌}
 use Rattle.rules.specs.Sizes.{bad_point}
-use borrow.Author.Rules.{rules}
 use Rattle.grid.proofs.bad_point.Goals as goal
 
 pub returns-then-off_grid : goal.returns-then-off_grid

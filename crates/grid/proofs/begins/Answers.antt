@@ -2,7 +2,6 @@
 use mathlib.Core.Path.{ap₂}
 use lib.Dec.{ltb}
 use Rattle.rules.specs.Span.{cover, begins}
-use borrow.Author.Rules.{rules}
 use Rattle.grid.proofs.begins.Goals as goal
 
 pub returns : goal.returns

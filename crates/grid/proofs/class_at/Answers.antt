@@ -3,7 +3,6 @@ use mathlib.Core.Path.{ap, ◌∙◌}
 use Rattle.rules.specs.Classes.{class_no, bit}
 use Rattle.grid.specs.Tiles.{class_at}
 use native.Mathlib.Omega.{arith}
-use borrow.Author.Rules.{rules}
 use Rattle.grid.proofs.class_at.Goals as goal
 
 pub returns : goal.returns

@@ -3,7 +3,6 @@ use mathlib.Core.Path.{refl, sym, ap, ◌∙◌}
 use Prim.Native.Nat.{ℕ, ◌/◌}
 use native.Mathlib.Nat.{div-zero}
 use Rattle.rules.specs.Sizes.{column}
-use borrow.Author.Rules.{rules}
 use Rattle.grid.proofs.column.Goals as goal
 
 pub returns-then-g-eq0 : goal.returns-then-g-eq0

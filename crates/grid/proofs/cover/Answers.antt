@@ -4,7 +4,6 @@ use Prim.Native.Nat.{ℕ, ◌+◌, ◌*◌, ◌≤◌, ◌<◌}
 use native.Mathlib.Nat.{mul-le-mul}
 use Rattle.rules.specs.Span.{cover}
 use native.Mathlib.Omega.{arith}
-use borrow.Author.Rules.{rules}
 use Rattle.grid.proofs.cover.Goals as goal
 
 low : (c side : ℕ) → c < 64 → side ≤ 16384 → (c * side ≤ 1032192) × ((c + 1) * side ≤ 1048576)

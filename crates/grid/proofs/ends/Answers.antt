@@ -5,7 +5,6 @@ use lib.Dec.{leb, ltb}
 use Rattle.laws.proofs.Tests.{leb_same}
 use Rattle.rules.specs.Span.{cover, ends}
 use native.Mathlib.Omega.{arith}
-use borrow.Author.Rules.{rules}
 use Rattle.grid.proofs.ends.Goals as goal
 
 past : (side c hi : ℕ) → 1 ≤ side → leb (c * side + side) hi ≡ ltb ((c + 1) * side - 1) hi

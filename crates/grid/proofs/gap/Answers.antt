@@ -1,7 +1,6 @@
 -- `grid::gap` meets its contract. Assumes nothing.
 use Rattle.rules.specs.Span.{gap}
 use native.Mathlib.Omega.{arith}
-use borrow.Author.Rules.{rules}
 use Rattle.grid.proofs.gap.Goals as goal
 
 pub returns-then-after-before : goal.returns-then-after-before

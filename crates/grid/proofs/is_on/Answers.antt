@@ -5,7 +5,6 @@ use Prim.Native.Nat.{ℕ, ◌<◌, ◌≤◌, ◌^◌}
 use native.Mathlib.Nat.{div-eq_of_lt, lt_of_lt_of_le}
 use lib.Pow.{pow_mono}
 use Rattle.grid.specs.Places.{is_on}
-use borrow.Author.Rules.{rules}
 use Rattle.grid.proofs.is_on.Goals as goal
 
 past : (m k : ℕ) → m < 2 ^ 16 → 16 ≤ k → is_on m k ≡ false

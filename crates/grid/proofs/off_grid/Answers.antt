@@ -2,7 +2,6 @@
 use mathlib.Core.Path.{ap₂}
 use lib.Dec.{leb}
 use Rattle.rules.specs.Sizes.{off_grid}
-use borrow.Author.Rules.{rules}
 use Rattle.grid.proofs.off_grid.Goals as goal
 
 pub returns : goal.returns

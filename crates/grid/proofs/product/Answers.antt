@@ -3,7 +3,6 @@ use mathlib.Core.Path.{ap₂}
 use Prim.Native.Nat.{ℕ, ◌*◌, ◌≤◌}
 use native.Mathlib.Nat.{mul-le-mul}
 use native.Mathlib.Omega.{arith}
-use borrow.Author.Rules.{rules}
 use Rattle.grid.proofs.product.Goals as goal
 
 most : {a b : ℕ} → a ≤ 4294967295 → b ≤ 4294967295 → a * b ≤ 18446744065119617025

@@ -1,6 +1,5 @@
 -- `grid::tile_count` meets its contract. Assumes nothing.
 use Rattle.rules.specs.Sizes.{tile_count}
-use borrow.Author.Rules.{rules}
 use Rattle.grid.proofs.tile_count.Goals as goal
 
 pub returns : goal.returns

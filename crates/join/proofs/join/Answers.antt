@@ -10,7 +10,6 @@ use Rattle.rules.specs.Tables.{Tables, tables, bad_lengths, runs, good_runs}
 use Rattle.rules.specs.declared.Grid.{Grid}
 use Rattle.join.specs.Levels.{Judged}
 use Rattle.join.proofs.Verdicts.{lengths_same, starts_good, by_sizes, by_lengths_r, by_lengths_s, by_radius, by_damage_r, by_damage_s, accepted}
-use borrow.Author.Rules.{rules}
 use Rattle.join.proofs.join.Goals.{Else-bad_lengths, Else-bad_lengths-2, Else-bad_side, Else-bad_side-2, Else-bad_sizes, Else-g-r, Start}
 use Rattle.join.proofs.join.Goals as goal
 

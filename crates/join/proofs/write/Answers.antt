@@ -9,7 +9,6 @@ use Rattle.rules.proofs.JoinCount.{few_pairs}
 use Rattle.join.specs.Keeping.{most_pairs}
 use Rattle.join.proofs.Writing.{found_all, no_room, copied, laid}
 use native.Mathlib.Omega.{arith}
-use borrow.Author.Rules.{rules}
 use Rattle.join.proofs.write.Goals.{After-all-found, Start}
 use Rattle.join.proofs.write.Goals as goal
 

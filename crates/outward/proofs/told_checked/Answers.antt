@@ -1,7 +1,6 @@
 -- `outward::told_checked` meets its contract, case by case. Assumes nothing.
 use Rattle.rules.specs.Refusals.{paper_checked}
 use Rattle.outward.specs.Outward.{outward}
-use borrow.Author.Rules.{rules}
 use Rattle.outward.proofs.told_checked.Goals as goal
 
 pub returns-in-Yes : goal.returns-in-Yes

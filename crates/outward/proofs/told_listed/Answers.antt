@@ -1,7 +1,6 @@
 -- `outward::told_listed` meets its contract, case by case. Assumes nothing.
 use Rattle.rules.specs.Refusals.{paper_listed}
 use Rattle.outward.specs.Outward.{outward}
-use borrow.Author.Rules.{rules}
 use Rattle.outward.proofs.told_listed.Goals as goal
 
 pub returns-in-Done : goal.returns-in-Done

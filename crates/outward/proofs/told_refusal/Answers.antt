@@ -1,7 +1,6 @@
 -- `outward::told_refusal` meets its contract, case by case. Assumes nothing.
 use Rattle.rules.specs.Refusals.{paper}
 use Rattle.outward.specs.Outward.{outward}
-use borrow.Author.Rules.{rules}
 use Rattle.outward.proofs.told_refusal.Goals as goal
 
 pub returns-in-Sizes : goal.returns-in-Sizes

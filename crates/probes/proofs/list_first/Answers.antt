@@ -1,13 +1,12 @@
 -- `probes::list_first` meets its contract: each turn is one probe's step. Assumes nothing.
-use mathlib.Core.Path.{◌≡◌, sym, ap, ◌∙◌}
-use mathlib.Core.List.{List}
-use Prim.Native.Nat.{ℕ, ◌+◌, ◌*◌, ◌≤◌, zero-le}
+use mathlib.Core.Path.{sym, ap, ◌∙◌}
+use Prim.Native.Nat.{◌+◌, zero-le}
 use native.Mathlib.Nat.{le_of_eq}
 use native.Mathlib.Omega.{arith}
 use Rattle.rules.specs.declared.Listed.{Listed}
 use lib.ListN.{get_or}
 use Rattle.rules.specs.Tables.{tables}
-use Rattle.probes.specs.Listing.{Pass, so_far_of, list_most, no_probe, list_one}
+use Rattle.probes.specs.Listing.{Pass, so_far_of, no_probe}
 use Rattle.probes.proofs.Passes.{listed_below}
 use Rattle.probes.proofs.Turns.{rest_from, rest_begin, rest_step, rest_end}
 use Rattle.probes.proofs.list_first.Goals as goal
@@ -32,8 +31,11 @@ loop-i-preserved c =
     let e = c.list_at-so_far.ensures in
     record {
       within = omega arith;
-      below = omega (arith, ap (λ (s : Pass). so_far_of s.0) e,
-          listed_below a.g t (get_or a.probes.now l.i no_probe) l.i l.so_far l.lent l.ends l.invariant.below);
+      below = omega (
+        arith,
+        ap (λ (s : Pass). so_far_of s.0) e,
+        listed_below a.g t (get_or a.probes.now l.i no_probe) l.i l.so_far l.lent l.ends l.invariant.below,
+      );
       rest = ap (λ (s : Pass). rest_from a.g t a.probes.now a.count (l.i + 1) s) e
           ∙ rest_step a.g t a.probes.now a.count l.i (l.so_far, l.lent, l.ends) c.loop-i-test.true ∙ l.invariant.rest;
     }

@@ -1,9 +1,8 @@
 -- What `probes::list_first` keeps: the turns that are left make of what is listed so far what all make. Assumes nothing.
 use mathlib.Core.Path.{◌≡◌}
-use mathlib.Core.List.{List}
-use Prim.Native.Nat.{ℕ, ◌-◌, ◌*◌, ◌≤◌}
+use Prim.Native.Nat.{◌-◌, ◌*◌, ◌≤◌}
 use Rattle.rules.specs.Tables.{tables}
-use Rattle.probes.specs.Listing.{Pass, so_far_of, list_most, list_first}
+use Rattle.probes.specs.Listing.{so_far_of, list_most, list_first}
 use Rattle.probes.proofs.Turns.{rest_from}
 use Rattle.probes.proofs.list_first.Given as goal
 

@@ -1,9 +1,4 @@
 -- `probes::search_all` meets its contract: `Settled` says what the calls make together. Assumes nothing.
-use mathlib.Core.Path.{◌≡◌, sym, ap, ◌∙◌}
-use mathlib.Core.List.{List}
-use Prim.Native.Nat.{ℕ, ◌≤◌}
-use native.Mathlib.Nat.{le_trans, le_of_eq}
-use native.Mathlib.Omega.{arith}
 use lib.ListN.{length}
 use Rattle.probes.proofs.Settled.{turns_below, turns_few, answer_room, again_below, again_few, settled}
 use Rattle.probes.proofs.search_all.Goals as goal
@@ -21,8 +16,7 @@ copy-again-requires c =
 pub list_first-requires : goal.list_first-requires
 list_first-requires c =
     let a = c.args in
-    let n = length a.probes.now in
-    (
+    let n = length a.probes.now in (
       again_below a.g a.reg.now a.starts.now n c.answer-answer.result _ _ a.out.now a.ends.now c.copy-again.result _ _ c.copy-again.ensures,
       again_few a.g a.reg.now a.starts.now n c.answer-answer.result _ _ a.out.now a.ends.now c.copy-again.result _ _ c.copy-again.ensures
           c.list_first-counted.result (length a.out.now) (length a.ends.now) c.answer-answer.ensures,

@@ -1,5 +1,4 @@
 -- `search::search` meets its contract: the promise of `search_keeping`, which holds for either array. Assumes nothing.
-use borrow.Author.Rules.{rules}
 use Rattle.search.proofs.search.Goals as goal
 
 pub returns-then-r-g : goal.returns-then-r-g

@@ -3,7 +3,6 @@ use mathlib.Core.Path.{ap, ◌∙◌}
 use borrow.Author.Tests.{le-leb, lt-leb}
 use Rattle.rules.specs.Register.{count, bad_footprint, bad_entry}
 use native.Mathlib.Omega.{arith}
-use borrow.Author.Rules.{rules}
 use Rattle.tables.proofs.bad_entry.Goals as goal
 
 pub returns-then-count-at : goal.returns-then-count-at

@@ -1,6 +1,5 @@
 -- `tables::bad_rect` meets its contract: either span is bad. Assumes nothing.
 use mathlib.Core.Path.{sym, ◌∙◌}
-use borrow.Author.Rules.{rules}
 use Rattle.tables.proofs.bad_rect.Goals as goal
 
 pub returns-then-bad_span : goal.returns-then-bad_span

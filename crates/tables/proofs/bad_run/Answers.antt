@@ -3,7 +3,6 @@ use borrow.Author.Tests.{le-leb, lt-leb}
 use Rattle.rules.specs.Sizes.{tile_count}
 use Rattle.rules.specs.Build.{bad_run}
 use native.Mathlib.Omega.{arith}
-use borrow.Author.Rules.{rules}
 use Rattle.tables.proofs.bad_run.Goals as goal
 
 pub returns-then-tile_count-wide : goal.returns-then-tile_count-wide

@@ -1,7 +1,6 @@
 -- `tables::bad_span` meets its contract. Assumes nothing.
 use borrow.Author.Tests.{lt-ltb, le-ltb}
 use Rattle.rules.specs.Register.{bad_span}
-use borrow.Author.Rules.{rules}
 use Rattle.tables.proofs.bad_span.Goals as goal
 
 pub returns-then-s : goal.returns-then-s

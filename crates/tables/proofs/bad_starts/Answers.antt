@@ -1,6 +1,5 @@
 -- `tables::bad_starts` meets its contract. Assumes nothing.
 use Rattle.rules.specs.Tables.{bad_starts}
-use borrow.Author.Rules.{rules}
 use Rattle.tables.proofs.bad_starts.Goals as goal
 
 pub returns : goal.returns

@@ -1,10 +1,7 @@
 -- `tables::run` meets its contract: the part lies where the ends that were told say. Assumes nothing.
-use mathlib.Core.Path.{◌≡◌, sym, ap, ◌∙◌}
 use Prim.Native.Nat.{◌≤◌}
 use lib.ListN.{length}
 use Rattle.rules.specs.Refusals.{paper_ends}
-use Rattle.rules.specs.Build.{run_ends}
-use Rattle.rules.specs.declared.Ends.TheVariants.{At}
 use Rattle.tables.proofs.Runs.{part_told, part_good, part_refused}
 use native.Mathlib.Omega.{arith}
 use Rattle.tables.proofs.run.Goals as goal

@@ -9,7 +9,6 @@ use Rattle.rules.specs.declared.Refusal.TheVariants.{Damage}
 use Rattle.rules.specs.declared.Ends.TheVariants.{At}
 use Rattle.tables.proofs.Runs.{ends_judged, run_there}
 use native.Mathlib.Omega.{arith}
-use borrow.Author.Rules.{rules}
 use Rattle.tables.proofs.run_ends.Goals.{After-wide-to, Else-bad_run}
 use Rattle.tables.proofs.run_ends.Goals as goal
 

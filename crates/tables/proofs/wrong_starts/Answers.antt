@@ -8,7 +8,6 @@ use Rattle.laws.proofs.Tests.{eqb_same}
 use Rattle.rules.specs.Sizes.{tile_count}
 use Rattle.rules.specs.Tables.{runs}
 use native.Mathlib.Omega.{arith}
-use borrow.Author.Rules.{rules}
 use Rattle.tables.proofs.wrong_starts.Goals as goal
 
 other : (l t : ℕ) → (l ≡ 16 * t + 1 → ⊥) → true ≡ not (eqb l (16 * t + 1))

@@ -1,9 +1,7 @@
 -- `walk::add_groups` meets its contract: the four directions one after the other. Assumes nothing.
-use mathlib.Core.Path.{◌∙◌}
 use Rattle.walk.specs.Fill.{stands}
 use Rattle.walk.proofs.Adding.{refilled}
 use Rattle.walk.proofs.Starting.{four_steps}
-use borrow.Author.Rules.{rules}
 use Rattle.walk.proofs.add_groups.Goals as goal
 
 pub add_group-requires : goal.add_group-requires

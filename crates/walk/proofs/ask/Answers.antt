@@ -8,7 +8,6 @@ use Rattle.rules.specs.declared.Refusal.TheVariants.{Sizes, Lengths, Place}
 use Rattle.walk.proofs.Near.{lengths_alone}
 use Rattle.walk.proofs.Asking.{ask_sizes, ask_lengths, ask_place, ask_short, ask_refused, ask_marked, ask_beyond, ask_fine}
 use native.Mathlib.Omega.{arith}
-use borrow.Author.Rules.{rules}
 use Rattle.walk.proofs.ask.Goals.{Else-bad_lengths, Else-bad_point, Else-bad_sizes}
 use Rattle.walk.proofs.ask.Goals as goal
 

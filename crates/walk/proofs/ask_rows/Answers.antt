@@ -5,7 +5,6 @@ use Rattle.front.proofs.Callers.{last_lifted}
 use Rattle.walk.proofs.Adding.{same_rows}
 use Rattle.walk.proofs.Asking.{rows_spoiled, rows_given}
 use native.Mathlib.Omega.{arith}
-use borrow.Author.Rules.{rules}
 use Rattle.walk.proofs.ask_rows.Goals as goal
 
 pub run-s-requires : goal.run-s-requires

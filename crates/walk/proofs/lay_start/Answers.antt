@@ -12,7 +12,6 @@ use Rattle.walk.specs.Fill.{Got, add_all}
 use Rattle.walk.specs.Groups.{item_rows}
 use Rattle.walk.proofs.Starting.{start_stands, kept_waits}
 use native.Mathlib.Omega.{arith}
-use borrow.Author.Rules.{rules}
 use Rattle.walk.proofs.lay_start.Goals as goal
 
 pub add_tile-t-requires : goal.add_tile-t-requires

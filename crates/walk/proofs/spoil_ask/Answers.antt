@@ -1,6 +1,5 @@
 -- `walk::spoil_ask` meets its contract. Assumes nothing.
 use Rattle.walk.proofs.Asking.{spoils}
-use borrow.Author.Rules.{rules}
 use Rattle.walk.proofs.spoil_ask.Goals as goal
 
 pub returns : goal.returns

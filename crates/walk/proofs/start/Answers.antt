@@ -12,7 +12,6 @@ use Rattle.walk.specs.Reading.{Placed, Ready}
 use Rattle.walk.proofs.Near.{tile_on, lengths_alone}
 use Rattle.walk.proofs.Starting.{bad_runs, too_many, good_start, few_footprints, start_fits, start_sizes, start_lengths, start_place, start_damage, start_short, start_passes, start_refused, start_done}
 use native.Mathlib.Omega.{arith}
-use borrow.Author.Rules.{rules}
 use Rattle.walk.proofs.start.Goals.{Else-bad_lengths, Else-bad_point, Else-bad_sizes}
 use Rattle.walk.proofs.start.Goals as goal
 
@@ -71,9 +70,9 @@ tile_of-tile-requires c = placed c
 
 pub judge_tile-t-requires : goal.judge_tile-t-requires
 judge_tile-t-requires c = record {
-      ready = ready (goal.at.judge_tile-t-requires c).Else-bad_point;
-      tile_bound = c.tile_of-tile.ensures.1;
-    }
+  ready = ready (goal.at.judge_tile-t-requires c).Else-bad_point;
+  tile_bound = c.tile_of-tile.ensures.1;
+}
 
 pub returns-then-t : goal.returns-then-t
 returns-then-t c =

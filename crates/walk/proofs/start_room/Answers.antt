@@ -2,7 +2,6 @@
 use mathlib.Core.Path.{ap₂}
 use Prim.Native.Nat.{ℕ, ◌+◌, ◌*◌}
 use Rattle.rules.specs.Walk.{start_room}
-use borrow.Author.Rules.{rules}
 use Rattle.walk.proofs.start_room.Goals as goal
 
 pub returns : goal.returns

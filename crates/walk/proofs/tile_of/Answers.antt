@@ -4,7 +4,6 @@ use Prim.Native.Nat.{ℕ}
 use Rattle.rules.specs.Sizes.{tile_no, tile_of}
 use Rattle.walk.proofs.Near.{sized, columns}
 use native.Mathlib.Omega.{arith}
-use borrow.Author.Rules.{rules}
 use Rattle.walk.proofs.tile_of.Goals as goal
 
 pub tile_no-requires : goal.tile_no-requires

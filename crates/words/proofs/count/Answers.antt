@@ -1,8 +1,6 @@
 -- `words::count` meets its contract. Assumes nothing.
 use mathlib.Core.Path.{sym}
 use Rattle.words.proofs.Laws.{word_count}
-use Rattle.words.proofs.count.Reads as reads
-use Rattle.words.proofs.count.Lts as lts
 use Rattle.words.proofs.count.Goals as goal
 
 pub returns : goal.returns

@@ -1,13 +1,9 @@
 -- `words::get` meets its contract. Assumes nothing.
 use mathlib.Core.Path.{sym}
-use Prim.Native.Nat.{◌+◌, ◌*◌, ◌/◌, ◌<◌, ◌^◌}
+use Prim.Native.Nat.{◌+◌, ◌*◌, ◌<◌, ◌^◌}
 use native.Mathlib.Omega.{arith}
 use lib.ListN.{length}
 use Rattle.words.proofs.Laws.{word_count, word_at_law}
-use borrow.Author.Rules.{rules}
-use Rattle.words.proofs.get.Reads as reads
-use Rattle.words.proofs.get.Lts as lts
-use Rattle.words.proofs.wide.Reads as wide-reads
 -- the four bytes of number k lie inside
 use Rattle.words.proofs.get.Goals.{Start}
 use Rattle.words.proofs.get.Goals as goal

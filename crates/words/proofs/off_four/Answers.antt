@@ -1,9 +1,6 @@
 -- `words::off_four` meets its contract. Assumes nothing.
-use borrow.Author.Tests.{eq-eqb, ne_eqb}
 use Rattle.rules.specs.Bytes.{off_four}
 use borrow.Author.Rules.{rules}
-use Rattle.words.proofs.off_four.Reads as reads
-use Rattle.words.proofs.off_four.Lts as lts
 use Rattle.words.proofs.off_four.Goals as goal
 
 pub returns : goal.returns

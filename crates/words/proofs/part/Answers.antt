@@ -2,7 +2,6 @@
 use native.Mathlib.Omega.{arith}
 use Rattle.words.proofs.Laws.{word_count}
 use Rattle.words.proofs.Parts.{words_part}
-use borrow.Author.Rules.{rules}
 use Rattle.words.proofs.part.Goals as goal
 
 pub overflow_mul-result : goal.overflow_mul-result

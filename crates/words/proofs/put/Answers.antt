@@ -1,12 +1,9 @@
 -- `words::put` meets its contract. Assumes nothing.
 use mathlib.Core.Path.{refl}
-use Prim.Native.Nat.{◌+◌, ◌*◌, ◌/◌, ◌<◌, ◌^◌}
+use Prim.Native.Nat.{◌+◌, ◌*◌, ◌<◌, ◌^◌}
 use native.Mathlib.Omega.{arith}
 use lib.ListN.{length, length-set}
 use Rattle.words.proofs.Laws.{word_count, word_put}
-use borrow.Author.Rules.{rules}
-use Rattle.words.proofs.put.Reads as reads
-use Rattle.words.proofs.put.Lts as lts
 -- the four bytes of number k lie inside
 use Rattle.words.proofs.put.Goals.{Start}
 use Rattle.words.proofs.put.Goals as goal
@@ -42,6 +39,6 @@ bounds-b-at-4 c = simp length-set (omega (arith, inside c))
 
 pub returns : goal.returns
 returns c = record {
-      b_after = refl;
-      b_after_2 = word_put c.args.b.now c.args.k c.args.v (inside c).0;
-    }
+  bytes = refl;
+  numbers = word_put c.args.b.now c.args.k c.args.v (inside c).0;
+}

@@ -1,7 +1,6 @@
 -- `grid::marks::marks` meets its contract. Assumes nothing.
 use Rattle.rules.specs.Classes.{is_set, marked}
 use Rattle.grid.proofs.Masks.{nine, table, mask_of, mark_rule, mark_small}
-use borrow.Author.Rules.{rules}
 use Rattle.grid.proofs.marks.marks.Goals as goal
 
 pub returns : goal.returns

@@ -4,7 +4,6 @@ use Prim.Native.Nat.{◌-◌}
 use Rattle.rules.specs.Sizes.{column}
 use Rattle.rules.specs.Box.{first_column}
 use native.Mathlib.Omega.{arith}
-use borrow.Author.Rules.{rules}
 use Rattle.grid.proofs.near.first_column.Goals as goal
 
 pub returns-then-x-r : goal.returns-then-x-r

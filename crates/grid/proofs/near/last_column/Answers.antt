@@ -1,7 +1,6 @@
 -- `grid::near::last_column` meets its contract: the lesser of two columns. Assumes nothing.
 use Rattle.rules.specs.Box.{last_column}
 use native.Mathlib.Omega.{arith}
-use borrow.Author.Rules.{rules}
 use Rattle.grid.proofs.near.last_column.Goals as goal
 
 pub returns-then-c-g : goal.returns-then-c-g

@@ -2,7 +2,6 @@
 use mathlib.Core.Path.{ap₂}
 use lib.Dec.{leb}
 use Rattle.rules.specs.Distance.{within}
-use borrow.Author.Rules.{rules}
 use Rattle.grid.proofs.near.within.Goals as goal
 
 pub returns : goal.returns

@@ -7,7 +7,6 @@ use Rattle.index.proofs.Bounds.{within_64}
 use Rattle.index.proofs.Made.{need_made}
 use Rattle.index.proofs.Right.{wrong_first, wrong_last, runs_decide}
 use native.Mathlib.Omega.{arith}
-use borrow.Author.Rules.{rules}
 use Rattle.index.proofs.compare.is_built.Goals.{After-total, After-wide}
 use Rattle.index.proofs.compare.is_built.Goals as goal
 
@@ -24,9 +23,9 @@ returns-then-get-ne0 c = wrong_first c.args.g c.args.reg.now c.args.starts.now c
 
 pub total-requires : goal.total-requires
 total-requires c = record {
-      reg_bound = c.requires.reg_bound;
-      by_index = λ i h. within_64 _ _ _ (c.requires.by_index i h);
-    }
+  reg_bound = c.requires.reg_bound;
+  by_index = λ i h. within_64 _ _ _ (c.requires.by_index i h);
+}
 
 pub returns-then-wide-total : goal.returns-then-wide-total
 returns-then-wide-total c = wrong_last c.args.g c.args.reg.now c.args.starts.now c.args.entries.now c.requires.le_n.4 (λ e. omega (arith, c.if-wide-total.true, last (goal.at.returns-then-wide-total c).After-wide, need (goal.at.returns-then-wide-total c).After-total))

@@ -1,17 +1,12 @@
 -- `index::compare::is_run` meets its contract: one pass that stops at the first entry that is not right. Assumes nothing.
-use borrow.Author.Rules.{rules}
 use mathlib.Core.Path.{◌≡◌, sym, ap, ◌∙◌}
-use mathlib.Core.Bool.{Bool}
-use mathlib.Core.List.{List}
-use Prim.Native.Nat.{ℕ, ◌-◌, ◌/◌, ◌%◌, ◌<◌}
+use Prim.Native.Nat.{ℕ, ◌/◌, ◌%◌, ◌<◌}
 use lib.ListN.{length, get_or}
-use borrow.Author.Tests.{not-true, not-false, le-ltb, lt-ltb}
-use Rattle.laws.specs.Rising.{below}
-use Rattle.laws.proofs.Scans.{Rises, rises_all, falls, fails, rises_on, rises_out}
+use borrow.Author.Tests.{le-ltb, lt-ltb}
+use Rattle.laws.proofs.Scans.{rises_all, falls, fails, rises_on, rises_out}
 use Rattle.laws.proofs.Tests.{both_true}
 use Rattle.rules.specs.Register.{count}
 use Rattle.rules.specs.Tables.{stands}
-use Rattle.rules.specs.declared.Grid.{Grid}
 use Rattle.index.specs.Check.{stands_at, is_run}
 use Rattle.index.proofs.Right.{stands_at_law, tile_on}
 use native.Mathlib.Omega.{arith}
@@ -70,9 +65,9 @@ returns-then-all-i c =
 
 pub stands-requires : goal.stands-requires
 stands-requires c = record {
-      le_side = (c.requires.2, c.requires.3, (on (goal.at.stands-requires c).After-wide-n).0, (on (goal.at.stands-requires c).After-wide-n).1);
-      i_bound = omega (arith, c.if-all-i.false, c.count-all.ensures);
-    }
+  le_side = (c.requires.2, c.requires.3, (on (goal.at.stands-requires c).After-wide-n).0, (on (goal.at.stands-requires c).After-wide-n).1);
+  i_bound = omega (arith, c.if-all-i.false, c.count-all.ensures);
+}
 
 pub returns-then-not-stands : goal.returns-then-not-stands
 unfolding is_run

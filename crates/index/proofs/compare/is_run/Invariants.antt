@@ -1,20 +1,13 @@
 -- `index::compare::is_run` meets its contract: one pass that stops at the first entry that is not right. Assumes nothing.
-use borrow.Author.Rules.{rules}
-use mathlib.Core.Path.{◌≡◌, sym, ap, ◌∙◌}
 use mathlib.Core.Bool.{Bool}
 use mathlib.Core.List.{List}
-use Prim.Native.Nat.{ℕ, ◌-◌, ◌/◌, ◌%◌, ◌<◌}
-use lib.ListN.{length, get_or}
-use borrow.Author.Tests.{not-true, not-false, le-ltb, lt-ltb}
+use Prim.Native.Nat.{ℕ, ◌-◌}
+use lib.ListN.{length}
 use Rattle.laws.specs.Rising.{below}
-use Rattle.laws.proofs.Scans.{Rises, rises_all, falls, fails, rises_on, rises_out}
-use Rattle.laws.proofs.Tests.{both_true}
+use Rattle.laws.proofs.Scans.{Rises}
 use Rattle.rules.specs.Register.{count}
 use Rattle.rules.specs.Tables.{stands}
 use Rattle.rules.specs.declared.Grid.{Grid}
-use Rattle.index.specs.Check.{stands_at, is_run}
-use Rattle.index.proofs.Right.{stands_at_law, tile_on}
-use native.Mathlib.Omega.{arith}
 -- the run's tile is on the grid
 -- the entry that is read
 -- whether it stands there

@@ -1,10 +1,8 @@
 -- `index::compare::runs_right` meets its contract: one pass that stops at the first run that is not right. Assumes nothing.
-use borrow.Author.Rules.{rules}
 use mathlib.Core.Path.{◌≡◌, sym, ap, ◌∙◌}
-use Prim.Native.Nat.{◌+◌, ◌-◌, ◌<◌}
+use Prim.Native.Nat.{◌+◌, ◌<◌}
 use lib.ListN.{get_or}
-use borrow.Author.Tests.{not-true, not-false}
-use Rattle.laws.proofs.Scans.{Passes, passes_all, passes_not, passes_on, passes_out}
+use Rattle.laws.proofs.Scans.{passes_all, passes_not, passes_on, passes_out}
 use Rattle.rules.specs.Tables.{runs}
 use Rattle.numbers.proofs.Laws.{word_count}
 use Rattle.index.specs.Check.{is_run, run_right}

@@ -2,14 +2,12 @@
 use mathlib.Core.Path.{◌≡◌, sym, ap, ap₂, ◌∙◌}
 use Prim.Native.Nat.{ℕ}
 use lib.Dec.{eqb}
-use borrow.Author.Tests.{not-true, not-false}
 use Rattle.rules.specs.Span.{meets, cover}
 use Rattle.rules.specs.Register.{rectangle}
 use Rattle.rules.specs.declared.Rect.{Rect}
 use Rattle.rules.specs.declared.Span.{Span}
 use Rattle.grid.specs.Tiles.{class_at}
 use Rattle.index.specs.Check.{stands_at}
-use borrow.Author.Rules.{rules}
 use Rattle.index.proofs.compare.stands.Goals.{After-meets, After-meets-2}
 use Rattle.index.proofs.compare.stands.Goals as goal
 

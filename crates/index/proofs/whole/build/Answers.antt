@@ -10,7 +10,6 @@ use Rattle.index.proofs.Bounds.{within_64}
 use Rattle.index.proofs.Made.{Lies, need_made}
 use Rattle.index.proofs.Verdict.{accepted, accepted_lies, starts_stand, build_refused, build_short, build_done}
 use native.Mathlib.Omega.{arith}
-use borrow.Author.Rules.{rules}
 use Rattle.index.proofs.whole.build.Goals.{After-total-need, In-Passed}
 use Rattle.index.proofs.whole.build.Goals as goal
 

@@ -5,7 +5,6 @@ use Rattle.rules.specs.Build.{register_verdict}
 use Rattle.rules.proofs.Good.{good_sizes, few_footprints}
 use Rattle.index.specs.Judged.{verdict}
 use Rattle.index.proofs.Verdict.{accepted, accepted_lies, starts_stand, check_refused, check_yes, check_no}
-use borrow.Author.Rules.{rules}
 use Rattle.index.proofs.whole.check.Goals.{In-Passed}
 use Rattle.index.proofs.whole.check.Goals as goal
 

@@ -8,7 +8,6 @@ use Rattle.rules.specs.Refusals.{pass}
 use Rattle.rules.specs.Build.{register_verdict}
 use Rattle.index.proofs.Verdict.{few_judged, refused_footprint, refused_nothing}
 use native.Mathlib.Omega.{arith}
-use borrow.Author.Rules.{rules}
 use Rattle.index.proofs.whole.judge.Goals.{Else-bad_lengths, Else-bad_sizes}
 use Rattle.index.proofs.whole.judge.Goals as goal
 

@@ -1,6 +1,5 @@
 -- `join::boxes::around` meets its contract. Assumes nothing.
 use Rattle.rules.specs.JoinSteps.{around}
-use borrow.Author.Rules.{rules}
 use Rattle.join.proofs.boxes.around.Goals as goal
 
 pub returns : goal.returns

@@ -2,7 +2,6 @@
 use mathlib.Core.Path.{ap₂}
 use Rattle.rules.specs.Span.{span}
 use Rattle.rules.specs.JoinSteps.{around_span}
-use borrow.Author.Rules.{rules}
 use Rattle.join.proofs.boxes.around_span.Goals as goal
 
 pub returns : goal.returns

@@ -1,11 +1,9 @@
 -- `join::boxes::box_of` meets its contract: grown on around what is left, it is the whole box. Assumes nothing.
-use borrow.Author.Rules.{rules}
-use Prim.Native.Nat.{◌-◌}
-use lib.ListN.{length, get_or}
+use lib.ListN.{get_or}
 use Rattle.rules.specs.Register.{rectangle}
 use Rattle.join.proofs.Listing.{named_below, named_near}
 use Rattle.join.proofs.Sides.{entry_good}
-use Rattle.join.proofs.Boxing.{Grown, grown_on, grown_out, grown_holds}
+use Rattle.join.proofs.Boxing.{grown_on, grown_out, grown_holds}
 use native.Mathlib.Omega.{arith}
 use Rattle.join.proofs.boxes.box_of.Goals as goal
 

@@ -1,11 +1,8 @@
 -- `join::judge::bad_entries` meets its contract: whether all pass is whether those left pass. Assumes nothing.
-use borrow.Author.Rules.{rules}
 use mathlib.Core.Path.{refl, sym, ap, ◌∙◌}
 use mathlib.Core.Bool.{not}
-use Prim.Native.Nat.{◌≤◌, ◌-◌}
-use lib.ListN.{length}
 use Rattle.rules.specs.Register.{bad_entry}
-use Rattle.laws.proofs.Passing.{LeftOf, left_bad, left_good, left_none}
+use Rattle.laws.proofs.Passing.{left_bad, left_good, left_none}
 use native.Mathlib.Omega.{arith}
 use Rattle.join.proofs.judge.bad_entries.Goals as goal
 

@@ -6,7 +6,6 @@ use Rattle.rules.specs.Tables.{run_start, run_end}
 use Rattle.tables.proofs.Runs.{good_ends}
 use Rattle.join.proofs.Judging.{ends_bad, ends_good}
 use native.Mathlib.Omega.{arith}
-use borrow.Author.Rules.{rules}
 use Rattle.join.proofs.judge.bad_run.Goals.{Else-bad_ends}
 use Rattle.join.proofs.judge.bad_run.Goals as goal
 

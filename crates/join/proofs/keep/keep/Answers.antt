@@ -3,7 +3,6 @@ use lib.ListN.{length-set}
 use borrow.Author.Tests.{lt-leb, le-leb}
 use Rattle.join.specs.Keeping.{lay, keep_one}
 use native.Mathlib.Omega.{arith}
-use borrow.Author.Rules.{rules}
 use Rattle.join.proofs.keep.keep.Goals as goal
 
 pub returns-then-out-at : goal.returns-then-out-at

@@ -1,12 +1,11 @@
 -- `join::masks::all_marks` meets its contract: one mask more at every turn. Assumes nothing.
 use mathlib.Core.Path.{◌≡◌, ap, ◌∙◌}
 use mathlib.Core.List.{List}
-use Prim.Native.Nat.{ℕ, ◌+◌, ◌-◌, ◌/◌, ◌%◌, ◌≤◌, ◌<◌}
+use Prim.Native.Nat.{ℕ, ◌+◌, ◌/◌, ◌%◌, ◌<◌}
 use native.Mathlib.Nat.{lt_irrefl, not-suc-le-zero}
 use native.Mathlib.Omega.{arith}
 use lib.ListN.{length, set, length-set}
 use lib.Seq.{get_or-set_same, get_or-set_other}
-use borrow.Author.Rules.{rules}
 use Rattle.laws.proofs.Tests.{by_le}
 use Rattle.grid.specs.Places.{position, is_on}
 use Rattle.join.specs.Marks.{Nine, MarksBelow}

@@ -6,7 +6,6 @@ use lib.ListN.{get_or}
 use Rattle.rules.specs.Classes.{marked}
 use Rattle.join.specs.Marks.{Nine, Marks}
 use native.Mathlib.Omega.{arith}
-use borrow.Author.Rules.{rules}
 -- the mask of a class pair is the one at its number
 use Rattle.join.proofs.masks.marks_of.Goals as goal
 

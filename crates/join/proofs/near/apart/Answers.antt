@@ -2,7 +2,6 @@
 use mathlib.Core.Path.{sym, ap, ◌∙◌}
 use mathlib.Core.Bool.{not}
 use Rattle.join.specs.Boxes.{apart}
-use borrow.Author.Rules.{rules}
 use Rattle.join.proofs.near.apart.Goals as goal
 
 pub returns-then-by_distance : goal.returns-then-by_distance

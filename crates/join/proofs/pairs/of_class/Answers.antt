@@ -2,10 +2,10 @@
 use mathlib.Core.Path.{◌≡◌, sym, ap, ◌∙◌}
 use mathlib.Core.Bool.{true}
 use mathlib.Core.List.{List}
-use Prim.Native.Nat.{ℕ, ◌-◌, ◌<◌}
+use Prim.Native.Nat.{ℕ, ◌<◌}
 use Rattle.laws.specs.Lists.{up_to, each}
 use Rattle.join.specs.Keeping.{Kept, state, kept, most_pairs}
-use Rattle.join.proofs.Loops.{OverRange, range_start, range_step, range_few, range_size, range_end}
+use Rattle.join.proofs.Loops.{range_start, range_step, range_few, range_end}
 use Rattle.rules.specs.Tables.{Tables, tables, run_no, runs, run_at}
 use Rattle.rules.specs.Join.{Pair, class_pairs}
 use Rattle.join.specs.Levels.{good_entries, marked_pairs}

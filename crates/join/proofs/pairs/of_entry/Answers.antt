@@ -1,11 +1,10 @@
 -- `join::pairs::of_entry` meets its contract: S's numbers one after the other, unless they are all too far. Assumes nothing.
 use mathlib.Core.Path.{refl, sym, ◌∙◌}
 use mathlib.Core.List.{List}
-use Prim.Native.Nat.{ℕ, ◌≤◌, ◌-◌}
-use lib.ListN.{length}
+use Prim.Native.Nat.{ℕ}
 use Rattle.rules.specs.Join.{Pair}
 use Rattle.join.specs.Keeping.{Kept, state, most_pairs}
-use Rattle.join.proofs.Loops.{OverList, list_step, list_few, list_size, list_end}
+use Rattle.join.proofs.Loops.{list_step, list_few, list_end}
 use Rattle.join.specs.Levels.{one_pair, entry_pairs}
 use Rattle.join.proofs.Listing.{named_below, named_near}
 use Rattle.join.proofs.Sides.{entry_good}

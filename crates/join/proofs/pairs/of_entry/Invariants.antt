@@ -1,17 +1,9 @@
 -- `join::pairs::of_entry` meets its contract: S's numbers one after the other, unless they are all too far. Assumes nothing.
-use mathlib.Core.Path.{refl, sym, ◌∙◌}
-use mathlib.Core.List.{List}
-use Prim.Native.Nat.{ℕ, ◌≤◌, ◌-◌}
+use Prim.Native.Nat.{◌≤◌, ◌-◌}
 use lib.ListN.{length}
-use Rattle.rules.specs.Join.{Pair}
-use Rattle.join.specs.Keeping.{Kept, state, most_pairs}
-use Rattle.join.proofs.Loops.{OverList, list_step, list_few, list_size, list_end}
-use Rattle.join.specs.Levels.{one_pair, entry_pairs}
-use Rattle.join.proofs.Listing.{named_below, named_near}
-use Rattle.join.proofs.Sides.{entry_good}
-use Rattle.join.proofs.Boxing.{in_own, entry_apart}
-use Rattle.join.proofs.Levels.{keeps_none}
-use native.Mathlib.Omega.{arith}
+use Rattle.join.specs.Keeping.{state}
+use Rattle.join.proofs.Loops.{OverList}
+use Rattle.join.specs.Levels.{one_pair}
 -- what was kept before the loop, and what is kept at its head
 -- the pairs of each turn
 use Rattle.join.proofs.pairs.of_entry.Given as goal

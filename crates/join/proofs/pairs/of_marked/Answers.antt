@@ -3,7 +3,6 @@ use mathlib.Core.Path.{◌≡◌, sym, ap, ◌∙◌}
 use mathlib.Core.Bool.{Bool, true}
 use mathlib.Core.List.{List}
 use Prim.Native.Nat.{ℕ, ◌<◌}
-use borrow.Author.Tests.{not-true, not-false}
 use Rattle.rules.specs.Classes.{marked_in}
 use Rattle.rules.specs.Tables.{Tables, tables, runs, run_at}
 use Rattle.rules.specs.Join.{Pair}
@@ -13,7 +12,6 @@ use Rattle.rules.proofs.Report.{run_below}
 use Rattle.join.proofs.Sides.{tiles_most, run_stands, run_ends_good, run_entries_good}
 use Rattle.join.proofs.Levels.{mark_at, marked_pairs_law, unmarked_pairs, no_entries, keeps_none}
 use native.Mathlib.Omega.{arith}
-use borrow.Author.Rules.{rules}
 -- S's run is one of the grid's, and what was read of it is that run
 -- the pairs of the two runs
 use Rattle.join.proofs.pairs.of_marked.Goals.{After-is_on, After-run_no-k, After-run_no-m, After-run_part-run_s, Start}

@@ -3,7 +3,6 @@ use mathlib.Core.Path.{◌≡◌, sym, ap, ◌∙◌}
 use mathlib.Core.Bool.{true}
 use mathlib.Core.List.{List}
 use Prim.Native.Nat.{ℕ}
-use borrow.Author.Tests.{not-true, not-false}
 use Rattle.rules.specs.Tables.{Tables, tables}
 use Rattle.rules.specs.Join.{Pair, tile_pairs}
 use Rattle.rules.specs.JoinSteps.{has_tile}
@@ -12,7 +11,6 @@ use Rattle.rules.proofs.JoinCode.{tile_at_below}
 use Rattle.join.specs.Keeping.{Kept, state, kept}
 use Rattle.join.specs.Levels.{pairs_at}
 use Rattle.join.proofs.Levels.{pairs_at_law, no_pairs_at, keeps_none}
-use borrow.Author.Rules.{rules}
 -- the pairs with the tile that is there
 use Rattle.join.proofs.pairs.of_position.Goals.{After-tile_at-u, Else-not-has_tile, Start}
 use Rattle.join.proofs.pairs.of_position.Goals as goal

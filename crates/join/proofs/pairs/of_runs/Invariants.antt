@@ -1,16 +1,9 @@
 -- `join::pairs::of_runs` meets its contract: R's numbers one after the other, unless the two boxes are too far apart. Assumes nothing.
-use mathlib.Core.Path.{refl, sym, ◌∙◌}
-use mathlib.Core.List.{List}
-use Prim.Native.Nat.{ℕ, ◌≤◌, ◌-◌}
+use Prim.Native.Nat.{◌≤◌, ◌-◌}
 use lib.ListN.{length}
-use Rattle.rules.specs.Join.{Pair}
-use Rattle.join.specs.Keeping.{Kept, state, most_pairs}
-use Rattle.join.proofs.Loops.{OverList, list_step, list_few, list_size, list_end}
-use Rattle.join.specs.Levels.{entry_pairs, runs_pairs}
-use Rattle.join.proofs.Sides.{entry_good}
-use Rattle.join.proofs.Boxing.{runs_apart}
-use Rattle.join.proofs.Levels.{keeps_none}
-use native.Mathlib.Omega.{arith}
+use Rattle.join.specs.Keeping.{state}
+use Rattle.join.proofs.Loops.{OverList}
+use Rattle.join.specs.Levels.{entry_pairs}
 -- what was kept before the loop, and what is kept at its head
 -- the pairs of each turn
 use Rattle.join.proofs.pairs.of_runs.Given as goal

@@ -1,10 +1,10 @@
 -- `join::pairs::of_tile` meets its contract: the nine positions one after the other. Assumes nothing.
 use mathlib.Core.Path.{◌≡◌, sym, ap, ◌∙◌}
 use mathlib.Core.List.{List}
-use Prim.Native.Nat.{ℕ, ◌-◌}
+use Prim.Native.Nat.{ℕ}
 use Rattle.laws.specs.Lists.{up_to, each}
 use Rattle.join.specs.Keeping.{Kept, state, kept, most_pairs}
-use Rattle.join.proofs.Loops.{OverRange, range_start, range_step, range_few, range_size, range_end}
+use Rattle.join.proofs.Loops.{range_start, range_step, range_few, range_end}
 use Rattle.rules.specs.Tables.{Tables, tables}
 use Rattle.rules.specs.Join.{Pair}
 use Rattle.join.specs.Levels.{pairs_at, around_pairs}

@@ -1,15 +1,9 @@
 -- `join::pairs::of_tile` meets its contract: the nine positions one after the other. Assumes nothing.
-use mathlib.Core.Path.{◌≡◌, sym, ap, ◌∙◌}
-use mathlib.Core.List.{List}
-use Prim.Native.Nat.{ℕ, ◌-◌}
-use Rattle.laws.specs.Lists.{up_to, each}
-use Rattle.join.specs.Keeping.{Kept, state, kept, most_pairs}
-use Rattle.join.proofs.Loops.{OverRange, range_start, range_step, range_few, range_size, range_end}
-use Rattle.rules.specs.Tables.{Tables, tables}
-use Rattle.rules.specs.Join.{Pair}
-use Rattle.join.specs.Levels.{pairs_at, around_pairs}
-use Rattle.join.proofs.Levels.{around_pairs_law}
-use native.Mathlib.Omega.{arith}
+use Prim.Native.Nat.{◌-◌}
+use Rattle.join.specs.Keeping.{state}
+use Rattle.join.proofs.Loops.{OverRange}
+use Rattle.rules.specs.Tables.{tables}
+use Rattle.join.specs.Levels.{pairs_at}
 -- what was kept before the loop, and what is kept at its head
 -- the pairs of each turn, and of all of them
 use Rattle.join.proofs.pairs.of_tile.Given as goal

@@ -3,7 +3,6 @@ use mathlib.Core.Path.{sym, ◌∙◌}
 use native.Mathlib.Omega.{arith}
 use Rattle.join.specs.Keeping.{state}
 use Rattle.join.proofs.Listing.{room_for_one, one_kept, none_kept, one_counted}
-use borrow.Author.Rules.{rules}
 use Rattle.join.proofs.pairs.of_two.Goals as goal
 
 pub overflow_mul-found : goal.overflow_mul-found

@@ -1,9 +1,7 @@
 -- `join::places::has_tile` meets its contract: its row and its column are on the grid. Assumes nothing.
 use mathlib.Core.Path.{◌∙◌}
-use borrow.Author.Tests.{not-true, not-false}
 use Rattle.join.proofs.Around.{row_below, column_below, no_row, a_row}
 use native.Mathlib.Omega.{arith}
-use borrow.Author.Rules.{rules}
 use Rattle.join.proofs.places.has_tile.Goals as goal
 
 pub reaches-requires : goal.reaches-requires

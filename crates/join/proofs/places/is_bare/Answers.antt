@@ -6,7 +6,6 @@ use lib.Dec.{eqb}
 use lib.ListN.{get_or}
 use Rattle.rules.specs.Tables.{run_no, run_start}
 use Rattle.join.specs.Levels.{bare_tile}
-use borrow.Author.Rules.{rules}
 use Rattle.join.proofs.places.is_bare.Goals.{After-run_no-k}
 use Rattle.join.proofs.places.is_bare.Goals as goal
 

@@ -2,7 +2,6 @@
 use Rattle.rules.specs.Sizes.{row_of, column_of}
 use Rattle.join.specs.Levels.{position_of}
 use native.Mathlib.Omega.{arith}
-use borrow.Author.Rules.{rules}
 use Rattle.join.proofs.places.position.Goals as goal
 
 pub returns : goal.returns

@@ -1,7 +1,6 @@
 -- `join::places::reaches` meets its contract. Assumes nothing.
 use Rattle.join.proofs.Around.{off_before, off_after}
 use native.Mathlib.Omega.{arith}
-use borrow.Author.Rules.{rules}
 use Rattle.join.proofs.places.reaches.Goals as goal
 
 pub returns-then-c-d-lt1 : goal.returns-then-c-d-lt1

@@ -1,7 +1,6 @@
 -- `join::places::run_no` meets its contract. Assumes nothing.
 use Rattle.rules.specs.Tables.{run_no}
 use native.Mathlib.Omega.{arith}
-use borrow.Author.Rules.{rules}
 use Rattle.join.proofs.places.run_no.Goals as goal
 
 pub returns : goal.returns

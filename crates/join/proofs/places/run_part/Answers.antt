@@ -6,7 +6,6 @@ use Rattle.laws.specs.Lists.{part}
 use Rattle.rules.specs.Tables.{run_start, run_end}
 use Rattle.tables.proofs.Runs.{good_ends}
 use native.Mathlib.Omega.{arith}
-use borrow.Author.Rules.{rules}
 use Rattle.join.proofs.places.run_part.Goals.{After-wide-to}
 use Rattle.join.proofs.places.run_part.Goals as goal
 

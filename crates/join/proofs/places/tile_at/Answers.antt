@@ -3,7 +3,6 @@ use Rattle.rules.specs.Sizes.{row_of, column_of}
 use Rattle.rules.specs.JoinSteps.{tile_at}
 use Rattle.join.proofs.Around.{around_below}
 use native.Mathlib.Omega.{arith}
-use borrow.Author.Rules.{rules}
 use Rattle.join.proofs.places.tile_at.Goals as goal
 
 pub overflow_add-t : goal.overflow_add-t

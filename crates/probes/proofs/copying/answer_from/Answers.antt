@@ -1,6 +1,5 @@
 -- `probes::copying::answer_from` meets its contract: at each return what is listed, and the tests of room. Assumes nothing.
 use Rattle.probes.proofs.Answers.{room_lacks, ends_lack, all_fit, one_refused, all_refused}
-use borrow.Author.Rules.{rules}
 use Rattle.probes.proofs.copying.answer_from.Goals as goal
 
 pub returns-then-room-total : goal.returns-then-room-total

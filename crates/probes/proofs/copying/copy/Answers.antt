@@ -4,7 +4,6 @@ use native.Mathlib.Omega.{arith}
 use Rattle.rules.specs.declared.Listed.{Listed}
 use Rattle.probes.specs.Listing.{so_far_of, ends_of}
 use Rattle.probes.proofs.Answers.{numbers_lost, ends_lost, all_kept_law, at_copies_none, refused_copies_none}
-use borrow.Author.Rules.{rules}
 use Rattle.probes.proofs.copying.copy.Goals as goal
 
 pub returns-then-kept-total : goal.returns-then-kept-total

@@ -1,9 +1,7 @@
 -- `probes::copying::copy_ends` meets its contract: number by number from the front. Assumes nothing.
-use mathlib.Core.Path.{◌≡◌, refl}
-use Prim.Native.Nat.{◌-◌}
+use mathlib.Core.Path.{refl}
 use native.Mathlib.Omega.{arith}
-use lib.ListN.{length}
-use Rattle.search.proofs.Copies.{Copied, copied_none, copied_one, copied_all}
+use Rattle.search.proofs.Copies.{copied_none, copied_one, copied_all}
 use Rattle.probes.proofs.copying.copy_ends.Goals as goal
 
 pub loop-i-init : goal.loop-i-init

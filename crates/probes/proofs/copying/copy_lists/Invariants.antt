@@ -1,9 +1,8 @@
 -- `probes::copying::copy_lists` meets its contract: number by number from the front. Assumes nothing.
-use mathlib.Core.Path.{◌≡◌, refl}
+use mathlib.Core.Path.{◌≡◌}
 use Prim.Native.Nat.{◌-◌}
-use native.Mathlib.Omega.{arith}
 use lib.ListN.{length}
-use Rattle.search.proofs.Copies.{Copied, copied_none, copied_one, copied_all}
+use Rattle.search.proofs.Copies.{Copied}
 use Rattle.probes.proofs.copying.copy_lists.Given as goal
 
 abbrev pub invariant-loop-i : goal.invariant-loop-i

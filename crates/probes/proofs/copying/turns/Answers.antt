@@ -2,7 +2,6 @@
 use mathlib.Core.Path.{sym, ◌∙◌}
 use Rattle.rules.specs.declared.Refusal.TheVariants.{Sizes, Lengths}
 use Rattle.probes.proofs.Answers.{bad_sizes_law, bad_lengths_law, too_many, looked_at, no_turns, all_turns}
-use borrow.Author.Rules.{rules}
 use Rattle.probes.proofs.copying.turns.Goals as goal
 
 pub returns-then-bad_sizes : goal.returns-then-bad_sizes

@@ -7,7 +7,6 @@ use Rattle.rules.specs.Tables.{tables}
 use Rattle.probes.specs.Listing.{so_far_of}
 use Rattle.probes.proofs.Behind.{least_right}
 use Rattle.probes.proofs.Searched.{few_counted, listed, stays_at, stays_refused}
-use borrow.Author.Rules.{rules}
 use Rattle.probes.proofs.listing.list_one.Goals as goal
 
 pub offset_bounds-lent-at : goal.offset_bounds-lent-at

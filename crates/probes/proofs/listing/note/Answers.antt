@@ -3,7 +3,6 @@ use mathlib.Core.Path.{ap, ◌∙◌}
 use native.Mathlib.Omega.{arith}
 use Rattle.probes.specs.Listing.{need_of, numbers_of}
 use Rattle.probes.proofs.Notes.{note_done, note_room, note_other}
-use borrow.Author.Rules.{rules}
 use Rattle.probes.proofs.listing.note.Goals as goal
 
 pub overflow_add-total : goal.overflow_add-total

@@ -4,7 +4,6 @@ use mathlib.Core.List.{List}
 use Prim.Native.Nat.{ℕ}
 use lib.Seq.{set_out}
 use Rattle.rules.specs.declared.Listed.TheVariants.{Done}
-use borrow.Author.Rules.{rules}
 use Rattle.probes.proofs.listing.put_end.Goals as goal
 
 pub returns-else-i-ends : goal.returns-else-i-ends

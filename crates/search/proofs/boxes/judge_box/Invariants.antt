@@ -1,18 +1,12 @@
 -- `search::boxes::judge_box` meets its contract: what is left of the box, row by row. Assumes nothing.
-use borrow.Author.Rules.{rules}
-use mathlib.Core.Path.{◌≡◌, refl, ◌∙◌}
+use mathlib.Core.Path.{◌≡◌}
 use Prim.Native.Nat.{◌+◌, ◌-◌}
 use lib.ListN.{length}
-use Rattle.rules.specs.Distance.{point}
 use Rattle.rules.specs.Tables.{tables}
 use Rattle.rules.specs.Search.{read_runs}
-use Rattle.rules.proofs.Good.{good_sizes}
 use Rattle.search.specs.Reading.{row_most}
-use Rattle.search.proofs.Entries.{near_point}
-use Rattle.search.proofs.Pieces.{PiecesLeft, pieces_on, pieces_bad, pieces_end}
-use Rattle.search.proofs.Tiles.{row_runs, box_all}
-use Rattle.numbers.proofs.Laws.{same_count}
-use native.Mathlib.Omega.{arith}
+use Rattle.search.proofs.Pieces.{PiecesLeft}
+use Rattle.search.proofs.Tiles.{row_runs}
 use Rattle.search.proofs.boxes.judge_box.Given as goal
 
 abbrev pub invariant-loop-row : goal.invariant-loop-row

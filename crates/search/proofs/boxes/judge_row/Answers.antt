@@ -1,16 +1,10 @@
 -- `search::boxes::judge_row` meets its contract: what is left of the row, column by column. Assumes nothing.
-use borrow.Author.Rules.{rules}
-use mathlib.Core.Path.{◌≡◌, refl, ◌∙◌}
-use Prim.Native.Nat.{◌+◌, ◌-◌}
-use lib.ListN.{length}
+use mathlib.Core.Path.{refl, ◌∙◌}
 use Rattle.rules.specs.Distance.{point}
-use Rattle.rules.specs.Tables.{tables}
-use Rattle.rules.specs.Box.{box_row}
 use Rattle.rules.proofs.Good.{good_sizes}
-use Rattle.search.specs.Reading.{tile_most, runs_in}
 use Rattle.search.proofs.Entries.{near_point}
-use Rattle.search.proofs.Pieces.{PiecesLeft, pieces_on, pieces_bad, pieces_end}
-use Rattle.search.proofs.Tiles.{column_runs, row_all}
+use Rattle.search.proofs.Pieces.{pieces_on, pieces_bad, pieces_end}
+use Rattle.search.proofs.Tiles.{row_all}
 use Rattle.numbers.proofs.Laws.{same_count}
 use native.Mathlib.Omega.{arith}
 use Rattle.search.proofs.boxes.judge_row.Goals as goal

@@ -1,8 +1,8 @@
 -- `search::keeping::copy` meets its contract: number by number from the front. Assumes nothing.
-use mathlib.Core.Path.{◌≡◌, refl, ap, ◌∙◌}
-use Prim.Native.Nat.{ℕ, ◌-◌}
-use lib.ListN.{length, set}
-use Rattle.search.proofs.Copies.{Copied, copied_none, copied_one, copied_all}
+use mathlib.Core.Path.{refl, ap, ◌∙◌}
+use Prim.Native.Nat.{ℕ}
+use lib.ListN.{set}
+use Rattle.search.proofs.Copies.{copied_none, copied_one, copied_all}
 use native.Mathlib.Omega.{arith}
 use Rattle.search.proofs.keeping.copy.Goals as goal
 

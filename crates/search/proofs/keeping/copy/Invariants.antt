@@ -1,9 +1,8 @@
 -- `search::keeping::copy` meets its contract: number by number from the front. Assumes nothing.
-use mathlib.Core.Path.{◌≡◌, refl, ap, ◌∙◌}
-use Prim.Native.Nat.{ℕ, ◌-◌}
-use lib.ListN.{length, set}
-use Rattle.search.proofs.Copies.{Copied, copied_none, copied_one, copied_all}
-use native.Mathlib.Omega.{arith}
+use mathlib.Core.Path.{◌≡◌}
+use Prim.Native.Nat.{◌-◌}
+use lib.ListN.{length}
+use Rattle.search.proofs.Copies.{Copied}
 use Rattle.search.proofs.keeping.copy.Given as goal
 
 abbrev pub invariant-loop-i : goal.invariant-loop-i

@@ -5,7 +5,6 @@ use Rattle.rules.specs.Sizes.{bad_sizes, bad_point}
 use Rattle.rules.specs.Tables.{tables, bad_lengths}
 use Rattle.search.specs.Judged.{at}
 use Rattle.search.proofs.Verdicts.{lengths_are, ready, refused_sizes, refused_lengths, refused_place, refused_radius, refused_damage, accepted}
-use borrow.Author.Rules.{rules}
 -- the lengths, as they were judged
 use Rattle.search.proofs.keeping.judge.Goals.{After-bad_lengths, Else-bad_point, Else-bad_sizes}
 use Rattle.search.proofs.keeping.judge.Goals as goal

@@ -5,7 +5,6 @@ use Rattle.search.specs.Judged.{at}
 use Rattle.search.proofs.Verdicts.{promise_refused, promise_room, promise_done, writable}
 use Rattle.numbers.proofs.Laws.{same_count}
 use native.Mathlib.Omega.{arith}
-use borrow.Author.Rules.{rules}
 use Rattle.search.proofs.keeping.search_keeping.Goals as goal
 
 pub returns-then-count : goal.returns-then-count

@@ -7,7 +7,6 @@ use Rattle.rules.specs.Tables.{tables}
 use Rattle.search.specs.Judged.{at}
 use Rattle.search.proofs.Verdicts.{passed, read_again}
 use native.Mathlib.Omega.{arith}
-use borrow.Author.Rules.{rules}
 use Rattle.search.proofs.keeping.write.Goals as goal
 
 pub returns-then-count : goal.returns-then-count

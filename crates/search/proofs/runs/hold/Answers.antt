@@ -6,7 +6,6 @@ use Rattle.rules.specs.Tables.{tables, run_start, run_end, bad_ends}
 use Rattle.numbers.proofs.Laws.{word_count}
 use Rattle.search.proofs.Tile.{hold_damaged, hold_joined, hold_next}
 use native.Mathlib.Omega.{arith}
-use borrow.Author.Rules.{rules}
 -- the run's two ends, as they were read, and as they were judged
 use Rattle.search.proofs.runs.hold.Goals.{After-bad_ends, After-wide-e}
 use Rattle.search.proofs.runs.hold.Goals as goal

@@ -1,11 +1,9 @@
 -- `search::runs::hold_class` meets its contract: the mask says whether the class is allowed. Assumes nothing.
 use mathlib.Core.Path.{sym, ◌∙◌}
 use Prim.Native.Nat.{◌+◌, ◌*◌}
-use borrow.Author.Tests.{not-true, not-false}
 use Rattle.rules.specs.Tables.{tables}
 use Rattle.search.proofs.Classes.{starts_stand, hold_none, hold_one}
 use native.Mathlib.Omega.{arith}
-use borrow.Author.Rules.{rules}
 use Rattle.search.proofs.runs.hold_class.Goals as goal
 
 pub returns-then-not-is_on : goal.returns-then-not-is_on

@@ -1,11 +1,9 @@
 -- `search::runs::judge_at` meets its contract: the tile's square, then its allowed classes. Assumes nothing.
-use borrow.Author.Tests.{not-true, not-false}
 use Rattle.rules.specs.Tables.{tables}
 use Rattle.rules.proofs.Good.{good_sizes}
 use Rattle.search.proofs.Entries.{near_made}
 use Rattle.search.proofs.Tiles.{tile_far, tile_near, mask_allows}
 use native.Mathlib.Omega.{arith}
-use borrow.Author.Rules.{rules}
 use Rattle.search.proofs.runs.judge_at.Goals as goal
 
 pub cover-x-requires : goal.cover-x-requires
@@ -33,7 +31,7 @@ judge_tile-requires c =
       ready = c.requires.ready;
       tile_bound = c.tile_no-tile.ensures.1;
       allows = mask_allows a.g a.q a.r c.requires.ready.placed a.row a.col c.requires.row_lt_n.1 c.allowed_mask-mask.result c.column-2.result c.column.result
-              c.column-2.ensures c.column.ensures c.allowed_mask-mask.ensures c.tile_no-tile.result c.tile_no-tile.ensures.0;
+          c.column-2.ensures c.column.ensures c.allowed_mask-mask.ensures c.tile_no-tile.result c.tile_no-tile.ensures.0;
       count_bound = c.requires.count_bound;
     }
 

@@ -1,9 +1,6 @@
 -- `search::runs::judge_tile` meets its contract: what is held back and what is left of the tile, class by class. Assumes nothing.
-use mathlib.Core.Path.{◌≡◌, refl, ◌∙◌}
-use Prim.Native.Nat.{◌-◌}
-use lib.ListN.{length}
-use Rattle.rules.specs.Tables.{tables}
-use Rattle.search.proofs.Classes.{TileLeft, tile_all, tile_on, tile_bad, tile_end}
+use mathlib.Core.Path.{refl, ◌∙◌}
+use Rattle.search.proofs.Classes.{tile_all, tile_on, tile_bad, tile_end}
 use Rattle.numbers.proofs.Laws.{same_count}
 use native.Mathlib.Omega.{arith}
 use Rattle.search.proofs.runs.judge_tile.Goals as goal

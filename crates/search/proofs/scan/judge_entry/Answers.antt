@@ -1,11 +1,9 @@
 -- `search::scan::judge_entry` meets its contract: each test of the entry, and its distance, decide its outcome. Assumes nothing.
 use mathlib.Core.Path.{◌≡◌, refl, ◌∙◌}
-use borrow.Author.Tests.{not-true, not-false}
 use Rattle.rules.specs.Register.{bad_entry}
 use Rattle.rules.specs.Search.{is_hit}
 use Rattle.search.proofs.Entries.{near_made, near_judged, bad_number, tested_entry, tested_hit, entry_bad, entry_far, entry_hit}
 use native.Mathlib.Omega.{arith}
-use borrow.Author.Rules.{rules}
 -- what was tested of the rectangle that was read, said of the entry
 use Rattle.search.proofs.scan.judge_entry.Goals.{After-bad_rect, After-within}
 use Rattle.search.proofs.scan.judge_entry.Goals as goal

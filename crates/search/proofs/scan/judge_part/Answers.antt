@@ -1,8 +1,6 @@
 -- `search::scan::judge_part` meets its contract: what is left of the part, entry by entry. Assumes nothing.
-use mathlib.Core.Path.{◌≡◌, refl, ◌∙◌}
-use Prim.Native.Nat.{◌-◌}
-use lib.ListN.{length}
-use Rattle.search.proofs.Part.{PartLeft, part_all, part_on, part_bad, part_end}
+use mathlib.Core.Path.{refl, ◌∙◌}
+use Rattle.search.proofs.Part.{part_all, part_on, part_bad, part_end}
 use Rattle.numbers.proofs.Laws.{same_count}
 use native.Mathlib.Omega.{arith}
 use Rattle.search.proofs.scan.judge_part.Goals as goal
@@ -15,9 +13,9 @@ get-requires c = omega arith
 
 pub judge_entry-t-requires : goal.judge_entry-t-requires
 judge_entry-t-requires c = record {
-      placed = c.requires.placed;
-      count_bound = omega arith;
-    }
+  placed = c.requires.placed;
+  count_bound = omega arith;
+}
 
 pub returns-then-t : goal.returns-then-t
 returns-then-t c = part_bad c.loop-i.invariant.0 (omega arith) c.requires.past_in_bounds c.get.ensures c.judge_entry-t.ensures c.if-t.true _

@@ -1,10 +1,8 @@
 -- `search::scan::judge_part` meets its contract: what is left of the part, entry by entry. Assumes nothing.
-use mathlib.Core.Path.{◌≡◌, refl, ◌∙◌}
+use mathlib.Core.Path.{◌≡◌}
 use Prim.Native.Nat.{◌-◌}
 use lib.ListN.{length}
-use Rattle.search.proofs.Part.{PartLeft, part_all, part_on, part_bad, part_end}
-use Rattle.numbers.proofs.Laws.{same_count}
-use native.Mathlib.Omega.{arith}
+use Rattle.search.proofs.Part.{PartLeft}
 use Rattle.search.proofs.scan.judge_part.Given as goal
 
 abbrev pub invariant-loop-i : goal.invariant-loop-i

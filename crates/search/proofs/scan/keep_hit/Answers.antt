@@ -4,7 +4,6 @@ use lib.Seq.{set_out}
 use Rattle.rules.specs.Search.{hit_writes}
 use Rattle.search.specs.Reading.{keep_hit}
 use native.Mathlib.Omega.{arith}
-use borrow.Author.Rules.{rules}
 use Rattle.search.proofs.scan.keep_hit.Goals as goal
 
 pub returns-then-count : goal.returns-then-count

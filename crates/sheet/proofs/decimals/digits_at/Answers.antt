@@ -1,9 +1,6 @@
 -- `decimals::digits_at` meets its contract. The invariant: the digits passed and those still to count are all of them. Assumes nothing.
 use mathlib.Core.Path.{sym, ◌∙◌}
-use Prim.Native.Nat.{◌-◌}
-use borrow.Author.Tests.{not-true, not-false}
-use lib.ListN.{length}
-use Rattle.sheet.proofs.Digits.{Counting, count_start, count_step, count_stop, digits_stop, digits_end}
+use Rattle.sheet.proofs.Digits.{count_start, count_step, count_stop, digits_stop, digits_end}
 use native.Mathlib.Omega.{arith}
 use Rattle.sheet.proofs.decimals.digits_at.Goals as goal
 

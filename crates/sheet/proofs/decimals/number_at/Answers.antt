@@ -1,5 +1,4 @@
 -- `decimals::number_at` meets its contract. Assumes nothing.
-use borrow.Author.Rules.{rules}
 use mathlib.Core.Path.{ap, ap₂, ◌∙◌}
 use Prim.Native.Nat.{ℕ, ◌+◌}
 use Rattle.sheet.specs.declared.Number.TheVariants.{Decimal}
@@ -29,5 +28,6 @@ returns c =
     let e = c.digits_at-count.ensures in
     ap₂ Decimal c.value_at.ensures (ap (λ (k : ℕ). a.at + k) e)
     ∙ elim c.if-count-gt1.branch [
-      then-count-gt1+else-text-at-eq48 w ↦ more_digits a.text.now a.at (omega (arith, w.if-count-gt1.true)) (omega (arith, c.if-count-gt7.false)) w.if-text-at-eq48.false
-    | else-count-gt1 w ↦ one_digit a.text.now a.at (omega (arith, w.if-count-gt1.false, c.if-count-lt1.false)) ]
+      | then-count-gt1+else-text-at-eq48 w ↦ more_digits a.text.now a.at (omega (arith, w.if-count-gt1.true)) (omega (arith, c.if-count-gt7.false)) w.if-text-at-eq48.false
+      | else-count-gt1 w ↦ one_digit a.text.now a.at (omega (arith, w.if-count-gt1.false, c.if-count-lt1.false))
+    ]

@@ -1,7 +1,7 @@
 -- `decimals::value_at` meets its contract. The invariant: the number so far, read on over the digits that are left, is the whole. Assumes nothing.
-use Prim.Native.Nat.{◌+◌, ◌-◌, ◌≤◌, ◌<◌}
+use Prim.Native.Nat.{◌+◌, ◌≤◌, ◌<◌}
 use lib.ListN.{length, get_or}
-use Rattle.sheet.proofs.Digits.{Reading, reading_start, reading_byte, reading_small, reading_step, reading_end}
+use Rattle.sheet.proofs.Digits.{reading_start, reading_byte, reading_small, reading_step, reading_end}
 use native.Mathlib.Omega.{arith}
 -- the byte that is read is a digit of the text, and the number so far is small
 use Rattle.sheet.proofs.decimals.value_at.Goals.{In-loop-k}

@@ -1,8 +1,6 @@
 -- `decimals::value_at` meets its contract. The invariant: the number so far, read on over the digits that are left, is the whole. Assumes nothing.
-use Prim.Native.Nat.{◌+◌, ◌-◌, ◌≤◌, ◌<◌}
-use lib.ListN.{length, get_or}
-use Rattle.sheet.proofs.Digits.{Reading, reading_start, reading_byte, reading_small, reading_step, reading_end}
-use native.Mathlib.Omega.{arith}
+use Prim.Native.Nat.{◌-◌}
+use Rattle.sheet.proofs.Digits.{Reading}
 -- the byte that is read is a digit of the text, and the number so far is small
 use Rattle.sheet.proofs.decimals.value_at.Given as goal
 

@@ -1,8 +1,7 @@
 -- `judging::judge` meets its contract. The invariant: what was told so far, and what the lines that are left tell, is the whole. Assumes nothing.
-use borrow.Author.Rules.{rules}
-use Prim.Native.Nat.{◌-◌, ◌≤◌}
+use Prim.Native.Nat.{◌≤◌}
 use lib.ListN.{length}
-use Rattle.sheet.proofs.Progress.{Judging, judging_start, line_within, few_more, judging_line, judged_bad, judged_good, judged_short, judged_long, judged_roomless}
+use Rattle.sheet.proofs.Progress.{judging_start, line_within, few_more, judging_line, judged_bad, judged_good, judged_short, judged_long, judged_roomless}
 use native.Mathlib.Omega.{arith}
 use Rattle.sheet.proofs.judging.judge.Goals as goal
 

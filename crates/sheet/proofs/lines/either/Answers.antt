@@ -4,7 +4,6 @@ use mathlib.Core.List.{[], ◌∷◌}
 use Rattle.sheet.specs.Places.{key_of}
 use Rattle.sheet.proofs.Words.{no_key, some_key}
 use native.Mathlib.Omega.{arith}
-use borrow.Author.Rules.{rules}
 use Rattle.sheet.proofs.lines.either.Goals as goal
 
 pub returns-then-length-eq0 : goal.returns-then-length-eq0

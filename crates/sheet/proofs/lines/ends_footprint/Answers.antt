@@ -1,7 +1,6 @@
 -- `lines::ends_footprint` meets its contract. Assumes nothing.
 use Rattle.rules.specs.Text.{ends_footprint}
 use Rattle.sheet.specs.Places.{key_of}
-use borrow.Author.Rules.{rules}
 use Rattle.sheet.proofs.lines.ends_footprint.Goals as goal
 
 pub returns-in-Start : goal.returns-in-Start

@@ -3,7 +3,6 @@ use mathlib.Core.Path.{sym, ap, ◌∙◌}
 use Rattle.rules.specs.Text.{word, begins_with}
 use Rattle.sheet.specs.Places.{key_of, word_at}
 use Rattle.sheet.specs.declared.Key.{Key}
-use borrow.Author.Rules.{rules}
 use Rattle.sheet.proofs.lines.key_at.Goals as goal
 
 pub returns-in-Start : goal.returns-in-Start

@@ -4,7 +4,6 @@ use Rattle.rules.specs.Text.{word, follow}
 use Rattle.sheet.specs.Places.{key_of, read_at}
 use Rattle.sheet.specs.declared.Key.{Key}
 use native.Mathlib.Omega.{arith}
-use borrow.Author.Rules.{rules}
 use Rattle.sheet.proofs.lines.line_at.Goals as goal
 
 pub only-requires : goal.only-requires
@@ -18,9 +17,9 @@ only-requires-in-Tiles c = omega arith
 pub either-requires : goal.either-requires
 unfolding word key_of
 either-requires c = record {
-      nonzero = omega arith;
-      nonzero_2 = omega arith;
-    }
+  nonzero = omega arith;
+  nonzero_2 = omega arith;
+}
 
 pub only-requires-in-Xlo : goal.only-requires-in-Xlo
 unfolding word key_of
@@ -37,9 +36,9 @@ only-requires-in-Xhi c = omega arith
 pub either-requires-in-Yhi : goal.either-requires-in-Yhi
 unfolding word key_of
 either-requires-in-Yhi c = record {
-      nonzero = omega arith;
-      nonzero_2 = omega arith;
-    }
+  nonzero = omega arith;
+  nonzero_2 = omega arith;
+}
 
 pub only-requires-in-X : goal.only-requires-in-X
 unfolding word key_of

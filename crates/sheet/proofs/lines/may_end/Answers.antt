@@ -1,7 +1,6 @@
 -- `lines::may_end` meets its contract. Assumes nothing.
 use Rattle.rules.specs.Text.{may_end}
 use Rattle.sheet.specs.Places.{key_of}
-use borrow.Author.Rules.{rules}
 use Rattle.sheet.proofs.lines.may_end.Goals as goal
 
 pub returns-in-Start : goal.returns-in-Start

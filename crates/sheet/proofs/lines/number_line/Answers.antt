@@ -1,6 +1,5 @@
 -- `lines::number_line` meets its contract. Assumes nothing.
 use Rattle.sheet.proofs.Words.{line_numberless, line_endless, line_goes_on, line_ends}
-use borrow.Author.Rules.{rules}
 use Rattle.sheet.proofs.lines.number_line.Goals as goal
 
 pub returns-then-text-end : goal.returns-then-text-end

@@ -1,9 +1,5 @@
 -- `lines::word_at` meets its contract. The invariant: what is left of the word decides whether all of it stands there. Assumes nothing.
-use borrow.Author.Rules.{rules}
-use mathlib.Core.Path.{◌≡◌, refl, sym, ◌∙◌}
-use Prim.Native.Nat.{◌-◌, ◌≤◌}
-use lib.ListN.{length, drop}
-use Rattle.rules.specs.Text.{begins_with}
+use mathlib.Core.Path.{refl, sym, ◌∙◌}
 use Rattle.sheet.proofs.Words.{word_next, word_differs, word_cut, word_whole, word_none, word_all}
 use native.Mathlib.Omega.{arith}
 use Rattle.sheet.proofs.lines.word_at.Goals as goal

@@ -1,6 +1,5 @@
 -- `print::number_of` meets its contract. Assumes nothing.
 use Rattle.rules.specs.Refusals.{paper}
-use borrow.Author.Rules.{rules}
 use Rattle.sheet.proofs.print.number_of.Goals as goal
 
 pub returns-in-Sizes : goal.returns-in-Sizes

@@ -1,6 +1,5 @@
 -- `print::put_byte` meets its contract. Assumes nothing.
 use Rattle.sheet.proofs.Puts.{no_room, put_one}
-use borrow.Author.Rules.{rules}
 use Rattle.sheet.proofs.print.put_byte.Goals as goal
 
 pub returns-then-out-at : goal.returns-then-out-at

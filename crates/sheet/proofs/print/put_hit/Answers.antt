@@ -1,6 +1,5 @@
 -- `print::put_hit` meets its contract. Assumes nothing.
 use Rattle.sheet.proofs.Puts.{put_pair}
-use borrow.Author.Rules.{rules}
 use Rattle.sheet.proofs.print.put_hit.Goals as goal
 
 pub returns : goal.returns

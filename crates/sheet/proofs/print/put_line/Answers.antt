@@ -1,6 +1,5 @@
 -- `print::put_line` meets its contract. Assumes nothing.
 use Rattle.sheet.proofs.Puts.{put_ending}
-use borrow.Author.Rules.{rules}
 use Rattle.sheet.proofs.print.put_line.Goals as goal
 
 pub returns : goal.returns

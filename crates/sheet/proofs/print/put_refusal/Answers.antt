@@ -1,7 +1,6 @@
 -- `print::put_refusal` meets its contract. Assumes nothing.
 use Rattle.rules.specs.Refusals.{paper}
 use Rattle.sheet.proofs.Puts.{put_refused, put_refused_line}
-use borrow.Author.Rules.{rules}
 use Rattle.sheet.proofs.print.put_refusal.Goals as goal
 
 pub returns-then-number-eq8 : goal.returns-then-number-eq8

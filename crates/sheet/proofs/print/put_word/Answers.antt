@@ -1,9 +1,5 @@
 -- `print::put_word` meets its contract. The invariant: what is left of the word, put behind what stands, is the whole. Assumes nothing.
-use borrow.Author.Rules.{rules}
-use mathlib.Core.Path.{◌≡◌, refl, sym, ◌∙◌}
-use Prim.Native.Nat.{◌-◌}
-use lib.ListN.{length, drop}
-use Rattle.sheet.specs.Put.{puts}
+use mathlib.Core.Path.{refl, sym, ◌∙◌}
 use Rattle.sheet.proofs.Puts.{word_step, word_end}
 use Rattle.sheet.proofs.print.put_word.Goals as goal
 

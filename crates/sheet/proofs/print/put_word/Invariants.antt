@@ -1,10 +1,8 @@
 -- `print::put_word` meets its contract. The invariant: what is left of the word, put behind what stands, is the whole. Assumes nothing.
-use borrow.Author.Rules.{rules}
-use mathlib.Core.Path.{◌≡◌, refl, sym, ◌∙◌}
+use mathlib.Core.Path.{◌≡◌}
 use Prim.Native.Nat.{◌-◌}
 use lib.ListN.{length, drop}
 use Rattle.sheet.specs.Put.{puts}
-use Rattle.sheet.proofs.Puts.{word_step, word_end}
 use Rattle.sheet.proofs.print.put_word.Given as goal
 
 abbrev pub invariant-loop-i : goal.invariant-loop-i

@@ -3,7 +3,6 @@ use mathlib.Core.Path.{ap, ◌∙◌}
 use mathlib.Core.Bool.{◌||◌}
 use Rattle.rules.specs.Register.{rectangle, bad_span, bad_footprint}
 use Rattle.rules.specs.declared.Rect.{Rect}
-use borrow.Author.Rules.{rules}
 use Rattle.tables.proofs.register.bad_footprint.Goals as goal
 
 pub returns : goal.returns

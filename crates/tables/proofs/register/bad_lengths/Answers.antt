@@ -6,7 +6,6 @@ use lib.Dec.{ltb, eqb}
 use Rattle.rules.specs.Sizes.{most_footprints}
 use Rattle.rules.specs.Register.{count, bad_register, numbers}
 use Rattle.rules.specs.Tables.{runs, bad_starts, bad_lengths}
-use borrow.Author.Rules.{rules}
 -- by how many numbers there are
 use Rattle.tables.proofs.register.bad_lengths.Goals as goal
 

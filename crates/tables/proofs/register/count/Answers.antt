@@ -2,7 +2,6 @@
 use mathlib.Core.Path.{ap}
 use Prim.Native.Nat.{ℕ, ◌/◌}
 use Rattle.rules.specs.Register.{count}
-use borrow.Author.Rules.{rules}
 use Rattle.tables.proofs.register.count.Goals as goal
 
 pub returns : goal.returns

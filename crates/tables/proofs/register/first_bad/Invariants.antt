@@ -1,10 +1,7 @@
 -- `tables::register::first_bad` meets its contract: what is left to look at begins with the first bad footprint of all. Assumes nothing.
-use borrow.Author.Rules.{rules}
-use mathlib.Core.Path.{sym, ◌∙◌}
 use Prim.Native.Nat.{◌-◌}
-use Rattle.rules.specs.Register.{count, footprints, bad_footprint, bad_footprints}
-use Rattle.tables.proofs.Footprints.{Sought, sought_all, sought_here, sought_on, sought_out}
-use native.Mathlib.Omega.{arith}
+use Rattle.rules.specs.Register.{count, bad_footprint}
+use Rattle.tables.proofs.Footprints.{Sought}
 use Rattle.tables.proofs.register.first_bad.Given as goal
 
 abbrev pub invariant-loop-i : goal.invariant-loop-i

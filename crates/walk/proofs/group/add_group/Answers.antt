@@ -6,7 +6,6 @@ use Rattle.walk.specs.Fill.{add_to, add_all, stands}
 use Rattle.walk.specs.Groups.{item_rows}
 use Rattle.walk.proofs.Adding.{refilled}
 use Rattle.walk.proofs.Groups.{group_yes, group_no}
-use borrow.Author.Rules.{rules}
 use Rattle.walk.proofs.group.add_group.Goals as goal
 
 pub group_row-t-requires : goal.group_row-t-requires

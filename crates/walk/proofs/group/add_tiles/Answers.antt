@@ -1,12 +1,11 @@
 -- `walk::group::add_tiles` meets its contract: what stands, with the tiles from one on brought to it, is the whole. Assumes nothing.
 use mathlib.Core.Path.{◌≡◌, refl, ◌∙◌}
-use Prim.Native.Nat.{◌+◌, ◌-◌, ◌*◌, ◌<◌}
-use lib.ListN.{length}
+use Prim.Native.Nat.{◌+◌, ◌*◌, ◌<◌}
 use Rattle.rules.specs.Sizes.{tile_count}
 use Rattle.walk.specs.Fill.{stands, add_to, Filled}
-use Rattle.walk.proofs.Bringing.{Bringing, bring_all, bring_one, bring_none}
+use Rattle.walk.proofs.Bringing.{bring_all, bring_one, bring_none}
 use Rattle.walk.proofs.Near.{tile_on}
-use Rattle.walk.proofs.Groups.{tile_rows, tiles_next, tiles_none, tiles_all}
+use Rattle.walk.proofs.Groups.{tiles_next, tiles_none, tiles_all}
 use native.Mathlib.Omega.{arith}
 -- the next tile is on the grid
 use Rattle.walk.proofs.group.add_tiles.Goals.{In-loop-i}

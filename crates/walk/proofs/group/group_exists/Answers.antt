@@ -4,7 +4,6 @@ use Prim.Native.Nat.{ℕ, ◌+◌}
 use lib.Dec.{ltb}
 use Rattle.walk.proofs.Groups.{exists_up, exists_right, exists_down, exists_left}
 use native.Mathlib.Omega.{arith}
-use borrow.Author.Rules.{rules}
 use Rattle.walk.proofs.group.group_exists.Goals as goal
 
 pub returns-in-Up : goal.returns-in-Up

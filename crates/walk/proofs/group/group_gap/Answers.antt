@@ -3,7 +3,6 @@ use mathlib.Core.Path.{◌∙◌}
 use Rattle.walk.proofs.Near.{sized, columns, point_most}
 use Rattle.walk.proofs.Groups.{gap_up, gap_right, gap_down, gap_left, up_on, right_on, down_on, left_on}
 use native.Mathlib.Omega.{arith}
-use borrow.Author.Rules.{rules}
 use Rattle.walk.proofs.group.group_gap.Goals as goal
 
 pub overflow_add-r : goal.overflow_add-r

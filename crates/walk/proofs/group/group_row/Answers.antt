@@ -2,7 +2,6 @@
 use Rattle.walk.proofs.Near.{square_fits}
 use Rattle.walk.proofs.Groups.{group_row}
 use native.Mathlib.Omega.{arith}
-use borrow.Author.Rules.{rules}
 use Rattle.walk.proofs.group.group_row.Goals as goal
 
 pub overflow_mul-gap : goal.overflow_mul-gap

@@ -2,7 +2,6 @@
 use Rattle.walk.proofs.Near.{sized, columns}
 use Rattle.walk.proofs.Groups.{line_up, line_right, line_down, line_left, up_on, right_on, down_on, left_on, lies_as}
 use native.Mathlib.Omega.{arith}
-use borrow.Author.Rules.{rules}
 use Rattle.walk.proofs.group.group_tiles.Goals as goal
 
 pub overflow_add-r : goal.overflow_add-r

@@ -11,7 +11,6 @@ use Rattle.walk.proofs.Adding.{spoilt, refilled}
 use Rattle.walk.proofs.Bringing.{add_all_append}
 use Rattle.walk.proofs.Groups.{lies_on, lies_tiles, group_lost, group_none, group_brings_law}
 use native.Mathlib.Omega.{arith}
-use borrow.Author.Rules.{rules}
 use Rattle.walk.proofs.group.open_group.Goals as goal
 
 pub returns-then-level-eq0 : goal.returns-then-level-eq0

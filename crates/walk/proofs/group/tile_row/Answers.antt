@@ -2,7 +2,6 @@
 use Rattle.walk.proofs.Near.{sized, point_most, tile_on, square_fits}
 use Rattle.walk.proofs.Groups.{tile_row}
 use native.Mathlib.Omega.{arith}
-use borrow.Author.Rules.{rules}
 use Rattle.walk.proofs.group.tile_row.Goals as goal
 
 pub nonzero_rem-tile : goal.nonzero_rem-tile

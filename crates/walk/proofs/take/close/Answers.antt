@@ -1,6 +1,5 @@
 -- `walk::take::close` meets its contract. Assumes nothing.
 use Rattle.walk.proofs.Moves.{close_bad, close_fine}
-use borrow.Author.Rules.{rules}
 use Rattle.walk.proofs.take.close.Goals as goal
 
 pub returns-then-f : goal.returns-then-f

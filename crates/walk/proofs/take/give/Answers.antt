@@ -6,7 +6,6 @@ use lib.ListN.{take, drop, length-set}
 use Rattle.laws.proofs.Stores.{two_stores}
 use Rattle.rules.specs.Walk.{row_writes}
 use native.Mathlib.Omega.{arith}
-use borrow.Author.Rules.{rules}
 use Rattle.walk.proofs.take.give.Goals as goal
 
 pub bounds-out-given-2 : goal.bounds-out-given-2

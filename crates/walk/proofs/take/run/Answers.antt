@@ -4,10 +4,9 @@ use lib.ListN.{length}
 use Rattle.rules.specs.Tables.{tables}
 use Rattle.rules.specs.Front.{rows}
 use Rattle.rules.proofs.Memory.{length_rows}
-use Rattle.walk.specs.Taking.{standing, goes}
+use Rattle.walk.specs.Taking.{goes}
 use Rattle.walk.proofs.Adding.{same_rows}
-use Rattle.walk.proofs.Weighing.{weighed}
-use Rattle.walk.proofs.Runs.{Running, run_all, run_step, run_falls, run_end_law, goes_yes}
+use Rattle.walk.proofs.Runs.{run_all, run_step, run_falls, run_end_law, goes_yes}
 use native.Mathlib.Omega.{arith}
 -- the test at the loop's head
 use Rattle.walk.proofs.take.run.Goals.{After-going}

@@ -1,14 +1,11 @@
 -- `walk::take::run` meets its contract: what stands, worked on, is the whole; the measure is the weight of the waiting rows. Assumes nothing.
-use mathlib.Core.Path.{◌≡◌, refl, sym, ap, ◌∙◌}
+use mathlib.Core.Path.{◌≡◌}
 use lib.ListN.{length}
 use Rattle.rules.specs.Tables.{tables}
 use Rattle.rules.specs.Front.{rows}
-use Rattle.rules.proofs.Memory.{length_rows}
-use Rattle.walk.specs.Taking.{standing, goes}
-use Rattle.walk.proofs.Adding.{same_rows}
+use Rattle.walk.specs.Taking.{standing}
 use Rattle.walk.proofs.Weighing.{weighed}
-use Rattle.walk.proofs.Runs.{Running, run_all, run_step, run_falls, run_end_law, goes_yes}
-use native.Mathlib.Omega.{arith}
+use Rattle.walk.proofs.Runs.{Running}
 -- the test at the loop's head
 use Rattle.walk.proofs.take.run.Given as goal
 

@@ -6,7 +6,6 @@ use lib.ListN.{take, drop}
 use Rattle.rules.specs.Register.{bad_entry}
 use Rattle.rules.specs.Walk.{row_numbers, row_writes}
 use Rattle.walk.proofs.Moves.{hand_bad, hand_fine}
-use borrow.Author.Rules.{rules}
 use Rattle.walk.proofs.take.take_footprint.Goals as goal
 
 pub returns-then-bad_entry : goal.returns-then-bad_entry

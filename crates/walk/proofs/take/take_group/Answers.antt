@@ -10,7 +10,6 @@ use Rattle.walk.specs.Groups.{item_rows}
 use Rattle.walk.proofs.Groups.{brings_alone}
 use Rattle.walk.proofs.Moves.{opened_moved}
 use native.Mathlib.Omega.{arith}
-use borrow.Author.Rules.{rules}
 use Rattle.walk.proofs.take.take_group.Goals as goal
 
 pub overflow_add-fresh : goal.overflow_add-fresh

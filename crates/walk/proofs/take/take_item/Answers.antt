@@ -3,7 +3,6 @@ use mathlib.Core.Path.{refl}
 use Rattle.rules.specs.Tables.{tables}
 use Rattle.rules.proofs.Memory.{length_rows}
 use native.Mathlib.Omega.{arith}
-use borrow.Author.Rules.{rules}
 use Rattle.walk.proofs.take.take_item.Goals as goal
 
 pub take_footprint-requires : goal.take_footprint-requires

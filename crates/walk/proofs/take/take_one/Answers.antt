@@ -1,7 +1,6 @@
 -- `walk::take::take_one` meets its contract. Assumes nothing.
 use Rattle.rules.specs.Tables.{tables}
 use Rattle.walk.proofs.Runs.{taken_known, taken_unknown}
-use borrow.Author.Rules.{rules}
 use Rattle.walk.proofs.take.take_one.Goals as goal
 
 pub returns-in-Known : goal.returns-in-Known

@@ -10,7 +10,6 @@ use Rattle.rules.specs.Walk.{waiting_row, tile_brings, item_move}
 use Rattle.rules.proofs.Memory.{length_rows}
 use Rattle.walk.proofs.Moves.{opened_moved}
 use native.Mathlib.Omega.{arith}
-use borrow.Author.Rules.{rules}
 use Rattle.walk.proofs.take.take_tile.Goals as goal
 
 pub overflow_add-fresh : goal.overflow_add-fresh

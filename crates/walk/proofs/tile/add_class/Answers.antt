@@ -9,7 +9,6 @@ use Rattle.walk.proofs.Adding.{refilled}
 use Rattle.walk.proofs.Judging.{run_good, one_run_law}
 use Rattle.walk.proofs.Classes.{run_of, class_on, class_off}
 use native.Mathlib.Omega.{arith}
-use borrow.Author.Rules.{rules}
 -- the run that the mask allows
 use Rattle.walk.proofs.tile.add_class.Goals.{After-wide-then-is_on}
 use Rattle.walk.proofs.tile.add_class.Goals as goal

@@ -1,12 +1,7 @@
 -- `walk::tile::add_part` meets its contract: what stands, with the entries from i on brought to it, is the whole. Assumes nothing.
-use mathlib.Core.Path.{◌≡◌, refl, ◌∙◌}
-use mathlib.Core.Bool.{true}
-use Prim.Native.Nat.{◌-◌}
-use lib.ListN.{length}
-use Rattle.laws.specs.Lists.{part}
+use mathlib.Core.Path.{refl, ◌∙◌}
 use Rattle.walk.specs.Fill.{stands, add_to, Filled}
-use Rattle.walk.specs.Reading.{good_entries, entry_rows}
-use Rattle.walk.proofs.Bringing.{Bringing, bring_all, bring_one, bring_none}
+use Rattle.walk.proofs.Bringing.{bring_all, bring_one, bring_none}
 use Rattle.walk.proofs.Entries.{part_good, rows_next, rows_end}
 use native.Mathlib.Omega.{arith}
 use Rattle.walk.proofs.tile.add_part.Goals as goal

@@ -1,18 +1,13 @@
 -- `walk::tile::add_tile` meets its contract: what stands, with the runs from a class on brought to it, is the whole. Assumes nothing.
-use mathlib.Core.Path.{◌≡◌, refl, ap, ◌∙◌}
+use mathlib.Core.Path.{◌≡◌}
 use mathlib.Core.Bool.{true}
-use mathlib.Core.List.{List}
-use Prim.Native.Nat.{ℕ, ◌-◌}
+use Prim.Native.Nat.{◌-◌}
 use lib.ListN.{length}
 use Rattle.rules.specs.Tables.{tables, good_runs}
-use Rattle.walk.specs.Fill.{stands, add_all}
+use Rattle.walk.specs.Fill.{stands}
 use Rattle.walk.specs.Reading.{run_rows}
-use Rattle.walk.proofs.Adding.{refilled}
-use Rattle.walk.proofs.Bringing.{Bringing, bring_all, bring_some, bring_none}
-use Rattle.walk.proofs.Near.{sized}
-use Rattle.walk.proofs.Judging.{starts_stand}
-use Rattle.walk.proofs.Classes.{runs_from, runs_all, both_good, class_rows, rows_none}
-use native.Mathlib.Omega.{arith}
+use Rattle.walk.proofs.Bringing.{Bringing}
+use Rattle.walk.proofs.Classes.{runs_from}
 use Rattle.walk.proofs.tile.add_tile.Given as goal
 
 abbrev pub invariant-loop-class : goal.invariant-loop-class

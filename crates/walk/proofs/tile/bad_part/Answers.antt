@@ -1,8 +1,5 @@
 -- `walk::tile::bad_part` meets its contract: the entries from i on may be named exactly if all may. Assumes nothing.
-use mathlib.Core.Path.{◌≡◌, refl, sym, ◌∙◌}
-use Prim.Native.Nat.{◌-◌}
-use Rattle.laws.specs.Lists.{part}
-use Rattle.walk.specs.Reading.{good_entries}
+use mathlib.Core.Path.{refl, sym, ◌∙◌}
 use Rattle.walk.proofs.Entries.{part_bad, part_on, part_end}
 use native.Mathlib.Omega.{arith}
 use Rattle.walk.proofs.tile.bad_part.Goals as goal

@@ -1,10 +1,8 @@
 -- `walk::tile::bad_part` meets its contract: the entries from i on may be named exactly if all may. Assumes nothing.
-use mathlib.Core.Path.{◌≡◌, refl, sym, ◌∙◌}
+use mathlib.Core.Path.{◌≡◌}
 use Prim.Native.Nat.{◌-◌}
 use Rattle.laws.specs.Lists.{part}
 use Rattle.walk.specs.Reading.{good_entries}
-use Rattle.walk.proofs.Entries.{part_bad, part_on, part_end}
-use native.Mathlib.Omega.{arith}
 use Rattle.walk.proofs.tile.bad_part.Given as goal
 
 abbrev pub invariant-loop-i : goal.invariant-loop-i

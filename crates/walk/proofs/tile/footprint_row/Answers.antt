@@ -6,7 +6,6 @@ use Rattle.rules.specs.declared.Rect.{Rect}
 use Rattle.rules.proofs.Good.{good_entry}
 use Rattle.walk.proofs.Near.{near_point, near_footprint, footprint_row}
 use native.Mathlib.Omega.{arith}
-use borrow.Author.Rules.{rules}
 use Rattle.walk.proofs.tile.footprint_row.Goals as goal
 
 pub footprint-a-requires : goal.footprint-a-requires

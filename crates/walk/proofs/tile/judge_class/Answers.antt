@@ -4,7 +4,6 @@ use Prim.Native.Nat.{◌+◌, ◌*◌}
 use Rattle.rules.specs.Tables.{tables}
 use Rattle.walk.proofs.Classes.{class_on, class_off, judged_as_law, judged_none}
 use native.Mathlib.Omega.{arith}
-use borrow.Author.Rules.{rules}
 use Rattle.walk.proofs.tile.judge_class.Goals as goal
 
 pub returns-then-is_on : goal.returns-then-is_on

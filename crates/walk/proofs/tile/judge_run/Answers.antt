@@ -5,7 +5,6 @@ use Rattle.rules.specs.Tables.{tables, run_start, run_end}
 use Rattle.tables.proofs.Runs.{good_ends}
 use Rattle.walk.proofs.Judging.{run_ends_bad, run_part_bad, run_fine}
 use native.Mathlib.Omega.{arith}
-use borrow.Author.Rules.{rules}
 use Rattle.walk.proofs.tile.judge_run.Goals as goal
 
 pub returns-then-bad_ends : goal.returns-then-bad_ends

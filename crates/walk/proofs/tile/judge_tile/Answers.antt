@@ -1,9 +1,8 @@
 -- `walk::tile::judge_tile` meets its contract: the runs from a class on are left, and what came before is counted. Assumes nothing.
-use Prim.Native.Nat.{◌-◌}
 use Rattle.rules.specs.Tables.{tables}
 use Rattle.walk.proofs.Near.{sized}
 use Rattle.walk.proofs.Judging.{starts_stand}
-use Rattle.walk.proofs.Classes.{runs_all, judged_as_law, Counting, count_all, count_bad, count_on, count_end}
+use Rattle.walk.proofs.Classes.{runs_all, judged_as_law, count_all, count_bad, count_on, count_end}
 use native.Mathlib.Omega.{arith}
 use Rattle.walk.proofs.tile.judge_tile.Goals as goal
 

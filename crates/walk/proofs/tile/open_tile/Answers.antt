@@ -7,7 +7,6 @@ use Rattle.rules.specs.Tables.{tables}
 use Rattle.walk.proofs.Adding.{spoilt, refilled}
 use Rattle.walk.proofs.Classes.{tile_lost, tile_bad, tile_fine}
 use native.Mathlib.Omega.{arith}
-use borrow.Author.Rules.{rules}
 -- the tile exists
 use Rattle.walk.proofs.tile.open_tile.Goals.{Else-tile_count-wide}
 use Rattle.walk.proofs.tile.open_tile.Goals as goal

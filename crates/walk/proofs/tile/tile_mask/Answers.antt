@@ -4,7 +4,6 @@ use Prim.Native.Nat.{ℕ, ◌/◌, ◌%◌}
 use Rattle.rules.specs.Sizes.{row_of, column_of}
 use Rattle.rules.specs.Span.{place}
 use Rattle.rules.specs.Classes.{allowed, allowed_in}
-use borrow.Author.Rules.{rules}
 use Rattle.walk.proofs.tile.tile_mask.Goals as goal
 
 pub returns : goal.returns

@@ -1,0 +1,10 @@
+-- In bytes, derived by tools/derive from crates/tables/proofs/register/count/Answers.antt: edit that one.
+-- `plan::register::count` meets its contract. Assumes nothing.
+use mathlib.Core.Path.{ap}
+use Prim.Native.Nat.{ℕ, ◌/◌}
+use Rattle.rules.specs.Register.{count}
+use Rattle.plan.proofs.register.count.Goals as goal
+
+pub returns : goal.returns
+unfolding count
+returns c = ap (λ (n : ℕ). n / 4) c.count.ensures
