@@ -1,7 +1,9 @@
-// Numbers and tables from standard input, in whatever pieces it comes.
-ghost use Rattle.std.specs.Prelude.{◌≡◌, ◌≤◌};
-ghost use Rattle.io.specs.Counts.{IsPrefixLen};
+// Numbers and tables from an input, as standard input, in whatever pieces it comes.
+ghost use Rattle.std.specs.Prelude.{◌≡◌, ◌≤◌, length, IfOk, OnErr, slice_index};
 ghost use Rattle.vectors.specs.Decimal.{pushed};
+
+use std::io;
+use std::io::Read;
 
 // Where the reading stands: how many bytes of the buffer are read, how many it holds, and whether the input is open.
 pub type Place = [usize; 3];
@@ -55,23 +57,25 @@ pub fn shut(place: &mut Place, state: usize) -> u64
     0
 }
 
-// The next byte: from the buffer, or from the input's next piece.
-fn next_byte(buffer: &mut [u8], place: &mut Place) -> Step {
+// The next byte: from the buffer, or from the input's next piece. The state stays, and a read that fails leaves the place as it was.
+fn next_byte<R: Read>(input: &mut R, buffer: &mut [u8], place: &mut Place) -> io::Result<Step>
+    ensures state { slice_index place.new 2 ≡ slice_index place.old 2 }
+    ensures err { OnErr result (place.new ≡ place.old) }
+{
     let at = place[READ];
     if at < place[HELD] {
         if at < buffer.len() {
             place[READ] = at + 1;
-            return Step::Byte(buffer[at]);
+            return Ok(Step::Byte(buffer[at]));
         }
     }
-    let got = libc::read(0, buffer);
-    let held = io::count(got, buffer);
+    let held = input.read(buffer)?;
     if held == 0 {
-        return Step::End;
+        return Ok(Step::End);
     }
     place[READ] = 1;
     place[HELD] = held;
-    Step::Byte(buffer[0])
+    Ok(Step::Byte(buffer[0]))
 }
 
 // A digit behind a number, where it is one and the number stays within most.
@@ -94,66 +98,78 @@ fn push(value: u64, byte: u8, most: u64) -> Pushed
     Pushed::Longer(10 * value + digit)
 }
 
-// The next number, which is at most most: digits, then LF. Else the reading ends.
-pub fn next_number(buffer: &mut [u8], place: &mut Place, most: u64) -> u64
-    ensures { result ≤ most }
+// The next number, which is at most most: digits, then LF. Else the reading ends. A read that fails loses the digits before it and
+// leaves the reading open.
+pub fn next_number<R: Read>(
+    input: &mut R,
+    buffer: &mut [u8],
+    place: &mut Place,
+    most: u64,
+) -> io::Result<u64>
+    ensures most { IfOk result (λ r. r ≤ most) }
+    ensures err { OnErr result (slice_index place.new 2 ≡ slice_index place.old 2) }
 {
     if place[STATE] != OPEN {
-        return shut(place, BROKEN);
+        return Ok(shut(place, BROKEN));
     }
     let mut value = 0;
     let mut begun = false;
-    let mut left = LONGEST;
-    while 0 < left {
-        left -= 1;
-        let Step::Byte(byte) = next_byte(buffer, place) else {
+    for _ in 0..LONGEST {
+        let Step::Byte(byte) = next_byte(input, buffer, place)? else {
             if begun {
-                return shut(place, BROKEN);
+                return Ok(shut(place, BROKEN));
             }
-            return shut(place, OVER);
+            return Ok(shut(place, OVER));
         };
         if byte == 10 {
             if begun {
-                return value;
+                return Ok(value);
             }
-            return shut(place, BROKEN);
+            return Ok(shut(place, BROKEN));
         }
         let Pushed::Longer(longer) = push(value, byte, most) else {
-            return shut(place, BROKEN);
+            return Ok(shut(place, BROKEN));
         };
         value = longer;
         begun = true;
     }
-    shut(place, BROKEN)
+    Ok(shut(place, BROKEN))
 }
 
 // The next number of 32 bits.
-pub fn next_word(buffer: &mut [u8], place: &mut Place) -> u32 {
-    next_number(buffer, place, MOST_WORD) as u32
+pub fn next_word<R: Read>(input: &mut R, buffer: &mut [u8], place: &mut Place) -> io::Result<u32> {
+    Ok(next_number(input, buffer, place, MOST_WORD)? as u32)
 }
 
-// The next table of 32-bit numbers, put at the beginning of memory, which it must fit; its length.
-pub fn next_words(buffer: &mut [u8], place: &mut Place, memory: &mut [u32]) -> usize
-    ensures { IsPrefixLen result memory.new }
+// The next table of 32-bit numbers, put at the beginning of memory, which it must fit; its length. A read that fails may leave a part
+// of the table in memory.
+pub fn next_words<R: Read>(
+    input: &mut R,
+    buffer: &mut [u8],
+    place: &mut Place,
+    memory: &mut [u32],
+) -> io::Result<usize>
+    ensures { IfOk result (λ r. r ≤ length memory.new) }
 {
-    let length = next_number(buffer, place, memory.len() as u64) as usize;
-    let mut k = 0;
-    while k < length {
-        memory[k] = next_word(buffer, place);
-        k += 1;
+    let length = next_number(input, buffer, place, memory.len() as u64)? as usize;
+    for k in 0..length {
+        memory[k] = next_word(input, buffer, place)?;
     }
-    length
+    Ok(length)
 }
 
 // The same for 64-bit numbers.
-pub fn next_longs(buffer: &mut [u8], place: &mut Place, memory: &mut [u64]) -> usize
-    ensures { IsPrefixLen result memory.new }
+pub fn next_longs<R: Read>(
+    input: &mut R,
+    buffer: &mut [u8],
+    place: &mut Place,
+    memory: &mut [u64],
+) -> io::Result<usize>
+    ensures { IfOk result (λ r. r ≤ length memory.new) }
 {
-    let length = next_number(buffer, place, memory.len() as u64) as usize;
-    let mut k = 0;
-    while k < length {
-        memory[k] = next_number(buffer, place, MOST_LONG);
-        k += 1;
+    let length = next_number(input, buffer, place, memory.len() as u64)? as usize;
+    for k in 0..length {
+        memory[k] = next_number(input, buffer, place, MOST_LONG)?;
     }
-    length
+    Ok(length)
 }

@@ -1,13 +1,20 @@
-// Numbers and tables to standard output, gathered in a lent slice; waiting is how many bytes of it are not written yet.
+// Numbers and tables to an output, as standard output, gathered in a lent slice; waiting is how many bytes of it are not written yet.
+// After a write that fails some of the bytes that waited may be written, and all of them count as waiting still.
+ghost use Rattle.std.specs.Prelude.{◌≡◌, ◌≤◌, drop, OnErr};
+ghost use Rattle.std.specs.Fmt.{decimal};
+
+use std::io;
+use std::io::Write;
 
 // A decimal of 64 bits and LF.
 const LINE: usize = 21;
 
 // Writes the bytes that wait.
-pub fn flush(out: &[u8], waiting: usize) {
+pub fn flush<W: Write>(output: &mut W, out: &[u8], waiting: usize) -> io::Result<()> {
     if waiting <= out.len() {
-        io::write_all(1, &out[..waiting]);
+        output.write_all(&out[..waiting])?;
     }
+    Ok(())
 }
 
 // Whether a line fits behind the bytes that wait.
@@ -26,40 +33,65 @@ fn put_byte(out: &mut [u8], waiting: &mut usize, byte: u8) {
     }
 }
 
+// Puts the decimal digits of n at the end of digits, and says where they begin.
+fn put_digits(n: u64, digits: &mut [u8; 20]) -> usize
+    ensures in_bounds { result ≤ 20 }
+    ensures text { drop result digits.new ≡ decimal n }
+{
+    let mut at = 20;
+    let mut rest = n;
+    while 10 <= rest {
+        at -= 1;
+        digits[at] = 48 + (rest % 10) as u8;
+        rest /= 10;
+    }
+    digits[at - 1] = 48 + rest as u8;
+    at - 1
+}
+
 // A number, and LF.
-pub fn put(out: &mut [u8], waiting: &mut usize, n: u64) {
+pub fn put<W: Write>(output: &mut W, out: &mut [u8], waiting: &mut usize, n: u64) -> io::Result<()>
+    ensures { OnErr result (waiting.new ≡ waiting.old) }
+{
     if !fits(out, *waiting) {
-        flush(out, *waiting);
+        flush(output, out, *waiting)?;
         *waiting = 0;
     }
     let mut digits = [0u8; 20];
-    let count = io::decimal(n, &mut digits);
-    put_all(out, waiting, &digits[..count]);
+    let begin = put_digits(n, &mut digits);
+    put_all(out, waiting, &digits[begin..]);
     put_byte(out, waiting, 10);
+    Ok(())
 }
 
 fn put_all(out: &mut [u8], waiting: &mut usize, bytes: &[u8]) {
-    let mut k = 0;
-    while k < bytes.len() {
-        put_byte(out, waiting, bytes[k]);
-        k += 1;
+    for byte in bytes {
+        put_byte(out, waiting, *byte);
     }
 }
 
 // The numbers of a table, each of 32 bits.
-pub fn put_words(out: &mut [u8], waiting: &mut usize, table: &[u32]) {
-    let mut k = 0;
-    while k < table.len() {
-        put(out, waiting, table[k] as u64);
-        k += 1;
+pub fn put_words<W: Write>(
+    output: &mut W,
+    out: &mut [u8],
+    waiting: &mut usize,
+    table: &[u32],
+) -> io::Result<()> {
+    for word in table {
+        put(output, out, waiting, *word as u64)?;
     }
+    Ok(())
 }
 
 // The same, each of 64 bits.
-pub fn put_longs(out: &mut [u8], waiting: &mut usize, table: &[u64]) {
-    let mut k = 0;
-    while k < table.len() {
-        put(out, waiting, table[k]);
-        k += 1;
+pub fn put_longs<W: Write>(
+    output: &mut W,
+    out: &mut [u8],
+    waiting: &mut usize,
+    table: &[u64],
+) -> io::Result<()> {
+    for long in table {
+        put(output, out, waiting, *long)?;
     }
+    Ok(())
 }
