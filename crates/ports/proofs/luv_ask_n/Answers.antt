@@ -2,7 +2,6 @@
 -- Assumes nothing.
 use mathlib.Core.Path.{sym}
 use Rattle.outward.proofs.Tell.{with_ask}
-use borrow.Author.Rules.{rules}
 use Rattle.ports.proofs.luv_ask_n.Goals as goal
 
 pub returns : goal.returns

@@ -1,6 +1,5 @@
 -- `ports::luv_build_n` meets its contract: the build's, told to C. Assumes nothing.
 use Rattle.outward.proofs.Tell.{with_two}
-use borrow.Author.Rules.{rules}
 use Rattle.ports.proofs.luv_build_n.Goals as goal
 
 pub returns : goal.returns

@@ -1,6 +1,5 @@
 -- `ports::luv_check_n` meets its contract: the check's, told to C. Assumes nothing.
 use Rattle.outward.proofs.Tell.{with_none}
-use borrow.Author.Rules.{rules}
 use Rattle.ports.proofs.luv_check_n.Goals as goal
 
 pub returns : goal.returns

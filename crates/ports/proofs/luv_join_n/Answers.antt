@@ -1,6 +1,5 @@
 -- `ports::luv_join_n` meets its contract: the join's, told to C. Assumes nothing.
 use Rattle.outward.proofs.Tell.{with_one}
-use borrow.Author.Rules.{rules}
 use Rattle.ports.proofs.luv_join_n.Goals as goal
 
 pub returns : goal.returns

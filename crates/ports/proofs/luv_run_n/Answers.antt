@@ -1,13 +1,7 @@
 -- `ports::luv_run_n` meets its contract: the ends that were told, as a place and a length. Assumes nothing.
-use mathlib.Core.Path.{◌≡◌, sym, ap, ◌∙◌}
-use Prim.Native.Nat.{◌≤◌}
-use lib.ListN.{length}
 use Rattle.rules.specs.Refusals.{paper_ends}
-use Rattle.rules.specs.Build.{run_ends}
-use Rattle.rules.specs.declared.Ends.TheVariants.{At}
 use Rattle.tables.proofs.Runs.{part_good}
 use Rattle.outward.proofs.Tell.{run_at, run_refused}
-use borrow.Author.Rules.{rules}
 use Rattle.ports.proofs.luv_run_n.Goals as goal
 
 pub overflow_sub-value : goal.overflow_sub-value

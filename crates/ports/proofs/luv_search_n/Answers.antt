@@ -1,6 +1,5 @@
 -- `ports::luv_search_n` meets its contract: the search's, told to C. Assumes nothing.
 use Rattle.outward.proofs.Tell.{with_one}
-use borrow.Author.Rules.{rules}
 use Rattle.ports.proofs.luv_search_n.Goals as goal
 
 pub returns : goal.returns

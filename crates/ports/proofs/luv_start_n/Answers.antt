@@ -1,6 +1,5 @@
 -- `ports::luv_start_n` meets its contract: the start's, told to C, with the walk's state as numbers. Assumes nothing.
 use Rattle.outward.proofs.Tell.{with_start}
-use borrow.Author.Rules.{rules}
 use Rattle.ports.proofs.luv_start_n.Goals as goal
 
 pub returns : goal.returns
