@@ -1,6 +1,6 @@
 // The calls: each reads its parameters, lends them as tables of exactly their lengths, and puts the answer. A read or a write that
 // fails ends the call; what was read of it is lost, and what waits is not written.
-ghost use Rattle.std.specs.Prelude.{◌≤◌, length, IfOk};
+ghost use Rattle.std.specs.Prelude.{◌≡◌, ◌≤◌, length, IfOk, OnErr, slice_index};
 
 use crate::walks::{ask, start};
 use outward::Told;
@@ -33,6 +33,7 @@ fn next_tables<R: Read>(
     ensures reg { IfOk result (λ l. l.reg ≤ length reg.new) }
     ensures starts { IfOk result (λ l. l.starts ≤ length starts.new) }
     ensures entries { IfOk result (λ l. l.entries ≤ length entries.new) }
+    ensures err { OnErr result (slice_index place.new 2 ≡ 0) }
 {
     let reg_length = next_words(input, buffer, place, reg)?;
     let starts_length = next_words(input, buffer, place, starts)?;

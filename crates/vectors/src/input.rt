@@ -107,7 +107,7 @@ pub fn next_number<R: Read>(
     most: u64,
 ) -> io::Result<u64>
     ensures most { IfOk result (λ r. r ≤ most) }
-    ensures err { OnErr result (slice_index place.new 2 ≡ slice_index place.old 2) }
+    ensures err { OnErr result (slice_index place.new 2 ≡ 0) }
 {
     if place[STATE] != OPEN {
         return Ok(shut(place, BROKEN));
@@ -136,20 +136,23 @@ pub fn next_number<R: Read>(
     Ok(shut(place, BROKEN))
 }
 
-// The next number of 32 bits.
-pub fn next_word<R: Read>(input: &mut R, buffer: &mut [u8], place: &mut Place) -> io::Result<u32> {
+// The next number of 32 bits. A read that fails leaves the reading open.
+pub fn next_word<R: Read>(input: &mut R, buffer: &mut [u8], place: &mut Place) -> io::Result<u32>
+    ensures { OnErr result (slice_index place.new 2 ≡ 0) }
+{
     Ok(next_number(input, buffer, place, MOST_WORD)? as u32)
 }
 
 // The next table of 32-bit numbers, put at the beginning of memory, which it must fit; its length. A read that fails may leave a part
-// of the table in memory.
+// of the table in memory, and leaves the reading open.
 pub fn next_words<R: Read>(
     input: &mut R,
     buffer: &mut [u8],
     place: &mut Place,
     memory: &mut [u32],
 ) -> io::Result<usize>
-    ensures { IfOk result (λ r. r ≤ length memory.new) }
+    ensures within { IfOk result (λ r. r ≤ length memory.new) }
+    ensures err { OnErr result (slice_index place.new 2 ≡ 0) }
 {
     let length = next_number(input, buffer, place, memory.len() as u64)? as usize;
     for k in 0..length {
@@ -165,7 +168,8 @@ pub fn next_longs<R: Read>(
     place: &mut Place,
     memory: &mut [u64],
 ) -> io::Result<usize>
-    ensures { IfOk result (λ r. r ≤ length memory.new) }
+    ensures within { IfOk result (λ r. r ≤ length memory.new) }
+    ensures err { OnErr result (slice_index place.new 2 ≡ 0) }
 {
     let length = next_number(input, buffer, place, memory.len() as u64)? as usize;
     for k in 0..length {
