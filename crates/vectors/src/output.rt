@@ -1,6 +1,6 @@
 // Numbers and tables to an output, as standard output, gathered in a lent slice; waiting is how many bytes of it are not written yet.
 // After a write that fails some of the bytes that waited may be written, and all of them count as waiting still.
-ghost use Rattle.std.specs.Prelude.{◌≡◌, ◌≤◌, drop, OnErr};
+ghost use Rattle.std.specs.Prelude.{◌≡◌, ◌≤◌, drop, length, max, OnErr};
 ghost use Rattle.std.specs.Fmt.{decimal};
 
 use std::io;
@@ -25,7 +25,9 @@ fn fits(out: &[u8], waiting: usize) -> bool {
     waiting <= out.len() - LINE
 }
 
-fn put_byte(out: &mut [u8], waiting: &mut usize, byte: u8) {
+fn put_byte(out: &mut [u8], waiting: &mut usize, byte: u8)
+    ensures { waiting.new ≤ max waiting.old (length out.new) }
+{
     let at = *waiting;
     if at < out.len() {
         out[at] = byte;
@@ -51,7 +53,8 @@ fn put_digits(n: u64, digits: &mut [u8; 20]) -> usize
 
 // A number, and LF.
 pub fn put<W: Write>(output: &mut W, out: &mut [u8], waiting: &mut usize, n: u64) -> io::Result<()>
-    ensures { OnErr result (waiting.new ≡ waiting.old) }
+    ensures within { waiting.new ≤ max waiting.old (length out.new) }
+    ensures err { OnErr result (waiting.new ≡ waiting.old) }
 {
     if !fits(out, *waiting) {
         flush(output, out, *waiting)?;
@@ -64,19 +67,23 @@ pub fn put<W: Write>(output: &mut W, out: &mut [u8], waiting: &mut usize, n: u64
     Ok(())
 }
 
-fn put_all(out: &mut [u8], waiting: &mut usize, bytes: &[u8]) {
+fn put_all(out: &mut [u8], waiting: &mut usize, bytes: &[u8])
+    ensures { waiting.new ≤ max waiting.old (length out.new) }
+{
     for byte in bytes {
         put_byte(out, waiting, *byte);
     }
 }
 
-// The numbers of a table, each of 32 bits.
+// The numbers of a table, each of 32 bits. Also where a write fails, no more waits than the slice holds, or than waited before.
 pub fn put_words<W: Write>(
     output: &mut W,
     out: &mut [u8],
     waiting: &mut usize,
     table: &[u32],
-) -> io::Result<()> {
+) -> io::Result<()>
+    ensures { waiting.new ≤ max waiting.old (length out.new) }
+{
     for word in table {
         put(output, out, waiting, *word as u64)?;
     }
@@ -89,7 +96,9 @@ pub fn put_longs<W: Write>(
     out: &mut [u8],
     waiting: &mut usize,
     table: &[u64],
-) -> io::Result<()> {
+) -> io::Result<()>
+    ensures { waiting.new ≤ max waiting.old (length out.new) }
+{
     for long in table {
         put(output, out, waiting, *long)?;
     }

@@ -10,7 +10,7 @@ use Rattle.rules.specs.Tables.{Tables, tables, bad_lengths, runs, good_runs}
 use Rattle.rules.specs.declared.Grid.{Grid}
 use Rattle.join.specs.Levels.{Judged}
 use Rattle.join.proofs.Verdicts.{lengths_same, starts_good, by_sizes, by_lengths_r, by_lengths_s, by_radius, by_damage_r, by_damage_s, accepted}
-use Rattle.join.proofs.join.Goals.{Else-bad_lengths, Else-bad_lengths-2, Else-bad_side, Else-bad_side-2, Else-bad_sizes, Else-g-r, Start}
+use Rattle.join.proofs.join.Goals.{Else-bad_lengths, Else-bad_lengths-2, Else-bad_side, Else-bad_side-2, Else-bad_sizes, Start}
 use Rattle.join.proofs.join.Goals as goal
 
 abbrev side-r : Start → Tables
@@ -36,9 +36,6 @@ side-s_in_else_bad_lengths_2 c = tables c.args.reg_s.now c.args.starts_s.now c.a
 
 lengths-s : (c : Else-bad_lengths-2) → bad_lengths c.args.g (side-s_in_else_bad_lengths_2 c) ≡ false
 lengths-s c = lengths_same c.args.g c.args.reg_s.now c.args.starts_s.now [] c.args.entries_s.now (sym c.bad_lengths-2.ensures ∙ c.if-bad_lengths-2.false)
-
-radius : (c : Else-g-r) → ltb c.args.g.side c.args.r ≡ false
-radius c = le-ltb _ _ c.if-g-r.false
 
 abbrev side-r_in_else_bad_side : Else-bad_side → Tables
 side-r_in_else_bad_side c = tables c.args.reg_r.now c.args.starts_r.now c.args.entries_r.now
@@ -96,17 +93,17 @@ bad_side-requires c = starts_good c.args.g c.args.reg_r.now c.args.starts_r.now 
 
 pub returns-then-bad_side : goal.returns-then-bad_side
 returns-then-bad_side c =
-    by_damage_r c.args.g (side-r (goal.at.returns-then-bad_side c).Start) (side-s (goal.at.returns-then-bad_side c).Start) c.args.r c.args.out.now (sizes (goal.at.returns-then-bad_side c).Else-bad_sizes) (lengths-r (goal.at.returns-then-bad_side c).Else-bad_lengths) (lengths-s (goal.at.returns-then-bad_side c).Else-bad_lengths-2) (radius (goal.at.returns-then-bad_side c).Else-g-r) (not-true _ (sym c.bad_side.ensures ∙ c.if-bad_side.true))
+    by_damage_r c.args.g (side-r (goal.at.returns-then-bad_side c).Start) (side-s (goal.at.returns-then-bad_side c).Start) c.args.r c.args.out.now (sizes (goal.at.returns-then-bad_side c).Else-bad_sizes) (lengths-r (goal.at.returns-then-bad_side c).Else-bad_lengths) (lengths-s (goal.at.returns-then-bad_side c).Else-bad_lengths-2) (le-ltb _ _ c.if-g-r.false) (not-true _ (sym c.bad_side.ensures ∙ c.if-bad_side.true))
 
 pub bad_side-requires-2 : goal.bad_side-requires-2
 bad_side-requires-2 c = starts_good c.args.g c.args.reg_s.now c.args.starts_s.now c.args.entries_s.now (lengths-s (goal.at.bad_side-requires-2 c).Else-bad_lengths-2)
 
 pub returns-then-bad_side-2 : goal.returns-then-bad_side-2
 returns-then-bad_side-2 c =
-    by_damage_s c.args.g (side-r (goal.at.returns-then-bad_side-2 c).Start) (side-s (goal.at.returns-then-bad_side-2 c).Start) c.args.r c.args.out.now (sizes (goal.at.returns-then-bad_side-2 c).Else-bad_sizes) (lengths-r (goal.at.returns-then-bad_side-2 c).Else-bad_lengths) (lengths-s (goal.at.returns-then-bad_side-2 c).Else-bad_lengths-2) (radius (goal.at.returns-then-bad_side-2 c).Else-g-r) (good-r (goal.at.returns-then-bad_side-2 c).Else-bad_side) (not-true _ (sym c.bad_side-2.ensures ∙ c.if-bad_side-2.true))
+    by_damage_s c.args.g (side-r (goal.at.returns-then-bad_side-2 c).Start) (side-s (goal.at.returns-then-bad_side-2 c).Start) c.args.r c.args.out.now (sizes (goal.at.returns-then-bad_side-2 c).Else-bad_sizes) (lengths-r (goal.at.returns-then-bad_side-2 c).Else-bad_lengths) (lengths-s (goal.at.returns-then-bad_side-2 c).Else-bad_lengths-2) (le-ltb _ _ c.if-g-r.false) (good-r (goal.at.returns-then-bad_side-2 c).Else-bad_side) (not-true _ (sym c.bad_side-2.ensures ∙ c.if-bad_side-2.true))
 
 pub write-requires : goal.write-requires
 write-requires c = judged (goal.at.write-requires c).Else-bad_side-2
 
 pub returns : goal.returns
-returns c = c.write.ensures ∙ accepted c.args.g (side-r (goal.at.returns c).Start) (side-s (goal.at.returns c).Start) c.args.r c.args.out.now (judged (goal.at.returns c).Else-bad_side-2) (radius (goal.at.returns c).Else-g-r)
+returns c = c.write.ensures ∙ accepted c.args.g (side-r (goal.at.returns c).Start) (side-s (goal.at.returns c).Start) c.args.r c.args.out.now (judged (goal.at.returns c).Else-bad_side-2) (le-ltb _ _ c.if-g-r.false)
