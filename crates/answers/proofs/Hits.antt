@@ -3,11 +3,11 @@
 use mathlib.Core.Path.{◌≡◌, refl, sym, ap, ◌∙◌}
 use mathlib.Core.Bool.{true, false, not}
 use mathlib.Core.List.{List, [], ◌∷◌, append-nil, Memᴰ}
-use Prim.Native.Nat.{ℕ, ◌+◌, ◌≤◌, ◌<◌}
+use Prim.Native.Nat.{ℕ, ◌≤◌, ◌<◌}
 use native.Mathlib.Omega.{arith}
 use lib.Dec.{ltb, eqb}
-use lib.ListN.{length, get_or, take, drop, length-take, length-append, get_or-append}
-use lib.Seq.{take_at, get_or-take}
+use lib.ListN.{length, get_or, take, drop, length-append}
+use lib.Seq.{take_at}
 use Rattle.laws.specs.Lists.{each, over, all}
 use Rattle.laws.proofs.Tests.{by_bool, clash, snd_true, neither, not_not}
 use Rattle.laws.proofs.Members.{mem_filter, mem_each}
@@ -22,8 +22,6 @@ use Rattle.rules.specs.Text.{line_of, found_word, hit_text, hit_of, hits_text, r
 use Rattle.rules.specs.declared.Grid.{Grid}
 use Rattle.rules.specs.declared.Point.{Point}
 use Rattle.rules.specs.declared.Rect.{Rect}
-use Rattle.rules.specs.declared.Answer.{Answer}
-use Rattle.rules.specs.declared.Answer.TheVariants.{Done, Refused}
 use Rattle.rules.specs.declared.Refusal.{Refusal}
 use Rattle.rules.proofs.Good.{good_entry}
 use Rattle.rules.proofs.Papers.{refused_number}
@@ -32,8 +30,9 @@ use Rattle.search.proofs.Entries.{near_point, near_rect}
 use Rattle.search.proofs.Left.{writes_are}
 use Rattle.search.proofs.Verdicts.{passed}
 use Rattle.sheet.specs.Put.{Output, puts}
-use Rattle.sheet.proofs.Puts.{put_both, each_step, each_end}
+use Rattle.sheet.proofs.Puts.{put_both}
 use Rattle.answers.specs.Answers.{Named, AllNamed, Answers}
+use Rattle.std.specs.Prelude.{Result, Ok, Err}
 
 -- ---- one hit
 
@@ -55,19 +54,6 @@ pub hit_is : (g : Grid) (reg : List ℕ) (q : Point) (hit s : ℕ) (a : Rect) �
 unfolding hit_of
 hit_is g reg q hit s a e f = ap (hit_text hit) (f ∙ ap (square (point q)) e)
 
--- ---- the first n hits, one after the other
-
-module _ (f : ℕ → List ℕ) (l : List ℕ) (n i : ℕ) (o : Output) where
-  pub hits_step : (p : Output) → n ≤ length l → i < n → p ≡ puts (f (get_or l i 0)) o
-      → puts (each f (drop (i + 1) (take n l))) p ≡ puts (each f (drop i (take n l))) o
-  hits_step p s h e =
-      let z : get_or (take n l) i 0 ≡ get_or l i 0 = rw get_or-take in
-      let w : i < length (take n l) = rw length-take (omega arith) in
-      sym (each_step f (take n l) i o p w (e ∙ ap (λ (x : ℕ). puts (f x) o) (sym z)))
-
-  pub hits_end : n ≤ i → puts (each f (drop i (take n l))) o ≡ o
-  hits_end h = each_end f (take n l) i o (rw length-take (omega arith))
-
 -- ---- a search that is answered
 
 module _ (g : Grid) (t : Tables) (q : Point) (r : ℕ) where
@@ -86,9 +72,9 @@ module _ (g : Grid) (t : Tables) (q : Point) (r : ℕ) where
         good = not_not _ (all_mem (λ j. not (bad_entry g t.reg j)) (run_at t k) a w.2);
       }
 
-  module _ (hits₀ hits : List ℕ) (n : ℕ) (a : Answer) (is : a ≡ Done n) (s : ◌≡◌ {A = Paper × List ℕ} (paper_answer a, hits) (searches g t q r hits₀)) where
-    e : ◌≡◌ {A = Paper × List ℕ} (paper_answer (Done n), hits) (searches g t q r hits₀)
-    e = ap (λ (x : Answer). (paper_answer x, hits)) (sym is) ∙ s
+  module _ (hits₀ hits : List ℕ) (n : ℕ) (a : Result ℕ Refusal) (is : a ≡ Ok n) (s : ◌≡◌ {A = Paper × List ℕ} (paper_answer a, hits) (searches g t q r hits₀)) where
+    e : ◌≡◌ {A = Paper × List ℕ} (paper_answer (Ok n), hits) (searches g t q r hits₀)
+    e = ap (λ (x : Result ℕ Refusal). (paper_answer x, hits)) (sym is) ∙ s
 
     -- the verdict, how many there are, and where they stand
     found : (search_verdict g t q r ≡ pass) × (n ≡ length (radius_hits g t q r)) × (hits ≡ over (radius_hits g t q r) hits₀)
@@ -116,17 +102,14 @@ module _ (g : Grid) (t : Tables) (q : Point) (r : ℕ) where
     first_hits : take n hits ≡ radius_hits g t q r
     first_hits = ap (take n) found.2 ∙ take_at (radius_hits g t q r) (drop (length (radius_hits g t q r)) hits₀) n (sym found.1)
 
-    pub hits_named : AllNamed g t.reg q hits n
+    -- so many numbers stand there
+    pub hits_stand : n ≤ length hits
+    hits_stand = omega (arith, ap length found.2 ∙ length-append (radius_hits g t q r) (drop (length (radius_hits g t q r)) hits₀), found.1)
+
+    pub hits_named : AllNamed g t.reg q (take n hits)
     hits_named =
-        let l = ap length found.2 ∙ length-append (radius_hits g t q r) (drop (length (radius_hits g t q r)) hits₀) in
-        let c = found.1 in
-        record {
-          stand = omega arith;
-          named = λ i h.
-              let z : get_or hits i 0 ≡ get_or (radius_hits g t q r) i 0 =
-              ap (λ (m : List ℕ). get_or m i 0) found.2 ∙ get_or-append (radius_hits g t q r) (drop (length (radius_hits g t q r)) hits₀) 0 i (omega arith) in
-              rw z (hit_named found.0 (get_or (radius_hits g t q r) i 0) (at_place (radius_hits g t q r) i (omega arith)));
-        }
+        rw first_hits
+        (record { named = λ i h. hit_named found.0 (get_or (radius_hits g t q r) i 0) (at_place (radius_hits g t q r) i h) })
 
     -- what is put of the count and of the hits is the question's text
     text_done : (o p s : Output) → p ≡ puts (line_of found_word n) o → s ≡ puts (each (hit_of g t.reg q) (take n hits)) p
@@ -139,7 +122,7 @@ module _ (g : Grid) (t : Tables) (q : Point) (r : ℕ) where
 
     pub done_answers : (out₀ out out' : List ℕ) (at k : ℕ) → ◌≡◌ {A = Output} (at, out) (puts (line_of found_word n) (0, out₀))
         → ◌≡◌ {A = Output} (k, out') (puts (each (hit_of g t.reg q) (take n hits)) (at, out))
-        → Answers g t q r hits₀ out₀ (record { length = k; refused = false }) hits out'
+        → Answers g t q r hits₀ out₀ (Ok k) hits out'
     unfolding paper_answer
     done_answers out₀ out out' at k b c = record {
       text = text_done (0, out₀) (at, out) (k, out') b c;
@@ -149,13 +132,13 @@ module _ (g : Grid) (t : Tables) (q : Point) (r : ℕ) where
 
   -- ---- a search that is refused
 
-  pub refused_answers : (hits₀ hits : List ℕ) (v : Refusal) (a : Answer) → a ≡ Refused v
+  pub refused_answers : (hits₀ hits : List ℕ) (v : Refusal) (a : Result ℕ Refusal) → a ≡ Err v
       → ◌≡◌ {A = Paper × List ℕ} (paper_answer a, hits) (searches g t q r hits₀)
       → (out₀ out : List ℕ) (k : ℕ) → ◌≡◌ {A = Output} (k, out) (puts (refusal_text (paper v)) (0, out₀))
-      → Answers g t q r hits₀ out₀ (record { length = k; refused = true }) hits out
+      → Answers g t q r hits₀ out₀ (Err k) hits out
   unfolding answer_text paper_answer
   refused_answers hits₀ hits v a is s out₀ out k b =
-      let e : ◌≡◌ {A = Paper × List ℕ} (paper v, hits) (searches g t q r hits₀) = ap (λ (x : Answer). (paper_answer x, hits)) (sym is) ∙ s in
+      let e : ◌≡◌ {A = Paper × List ℕ} (paper v, hits) (searches g t q r hits₀) = ap (λ (x : Result ℕ Refusal). (paper_answer x, hits)) (sym is) ∙ s in
       let z : eqb (searches g t q r hits₀).0.number 0 ≡ false = rw (← e) (refused_number v) in
       record {
         text = b ∙ rw (← e, refused_number v);

@@ -23,7 +23,6 @@ use Rattle.rules.specs.Text.{refused_word, refusal_text, answer_text}
 use Rattle.rules.specs.declared.Grid.{Grid}
 use Rattle.rules.specs.declared.Point.{Point}
 use Rattle.rules.specs.declared.Span.{Span}
-use Rattle.rules.specs.declared.Answer.TheVariants.{Done}
 use Rattle.rules.specs.declared.Refusal.{Refusal}
 use Rattle.rules.specs.declared.Refusal.TheVariants.{Sizes, Lengths, Place, Radius, Damage, Room}
 use Rattle.rules.proofs.Good.{good_sizes, on_grid, good_entry, good_rectangle}
@@ -31,9 +30,9 @@ use Rattle.rules.proofs.Lengths.{line_length, hits_length}
 use Rattle.rules.proofs.Papers.{refused_number}
 use Rattle.search.proofs.Left.{writes_are}
 use Rattle.sheet.specs.Put.{Output}
-use Rattle.sheet.proofs.Puts.{puts_room}
-use Rattle.answers.specs.Answers.{Named, Answers}
-use Rattle.answers.specs.declared.Answered.{Answered}
+use Rattle.sheet.proofs.Puts.{puts_room, puts_within}
+use Rattle.answers.specs.Answers.{Named, bytes_of, Answers}
+use Rattle.std.specs.Prelude.{Result, Ok}
 use Rattle.answers.proofs.Hits.{hit_named}
 
 -- ---- a refusal's text
@@ -98,7 +97,7 @@ module _ (g : Grid) (few-tiles : g.n ≤ 16) where
     abbrev hits : List ℕ
     hits = radius_hits g t q r
 
-    found : search_verdict g t q r ≡ pass → length hits ≤ length hits₀ → told (paper_answer (Done (length hits)), over hits hits₀) ≤ 16384
+    found : search_verdict g t q r ≡ pass → length hits ≤ length hits₀ → told (paper_answer (Ok (length hits)), over hits hits₀) ≤ 16384
     unfolding answer_text paper_answer
     found e h =
         let z : take (length hits) (over hits hits₀) ≡ hits = take_at hits (drop (length hits) hits₀) (length hits) refl in
@@ -122,15 +121,20 @@ module _ (g : Grid) (few-tiles : g.n ≤ 16) where
     text_fits = rw (writes_are g t.reg q (radius_hits g t q r)) (outcome (search_verdict g t q r) refl (verdict_short g t q r))
 
     -- so an output of 16,384 bytes has it whole
-    pub whole_text : (out₀ : List ℕ) → 16384 ≤ length out₀ → (a : Answered) (kept out : List ℕ) → Answers g t q r hits₀ out₀ a kept out
-        → take a.length out ≡ answer_text g t.reg q (searches g t q r hits₀) []
+    pub whole_text : (out₀ : List ℕ) → 16384 ≤ length out₀ → (a : Result ℕ ℕ) (kept out : List ℕ) → Answers g t q r hits₀ out₀ a kept out
+        → take (bytes_of a) out ≡ answer_text g t.reg q (searches g t q r hits₀) []
     whole_text out₀ h a kept out w =
         let l = answer_text g t.reg q (searches g t q r hits₀) [] in
         let f = text_fits in
         let z : 0 + length l ≡ length l = omega arith in
-        let e : ◌≡◌ {A = Output} (a.length, out) (length l, sets out₀ 0 l) =
+        let e : ◌≡◌ {A = Output} (bytes_of a, out) (length l, sets out₀ 0 l) =
         w.text ∙ puts_room l 0 out₀ (omega arith) ∙ ap (λ (k : ℕ). (k, sets out₀ 0 l)) z in
-        let x : a.length ≡ length l = ap (λ (o : Output). o.0) e in
+        let x : bytes_of a ≡ length l = ap (λ (o : Output). o.0) e in
         let y : out ≡ sets out₀ 0 l = ap (λ (o : Output). o.1) e in
         let u : out ≡ l ++ drop (0 + length l) out₀ = y ∙ sets-eq l out₀ 0 (omega arith) in
         rw (x, u) (take_at l (drop (0 + length l) out₀) (length l) refl)
+
+-- the text's end lies within the output, of whatever size
+pub text_within : (g : Grid) (t : Tables) (q : Point) (r : ℕ) (hits₀ out₀ : List ℕ) (a : Result ℕ ℕ) (hits out : List ℕ)
+    → Answers g t q r hits₀ out₀ a hits out → bytes_of a ≤ length out
+text_within g t q r hits₀ out₀ a hits out w = rw (← w.text) at (puts_within (answer_text g t.reg q (searches g t q r hits₀) []) (0, out₀) (omega arith))

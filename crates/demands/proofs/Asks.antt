@@ -9,6 +9,7 @@ use lib.Dec.{ltb}
 use lib.ListN.{length, take, drop, length-map, length-take, length-drop}
 use lib.Seq.{take-add, take_at, drop-drop}
 use borrow.Author.Tests.{lt-ltb, le-ltb}
+use Rattle.std.specs.Prelude.{Ok}
 use Rattle.laws.specs.Lists.{each, any, over}
 use Rattle.laws.proofs.Tests.{by_le}
 use Rattle.laws.proofs.Lists.{each_append}
@@ -20,7 +21,6 @@ use Rattle.rules.specs.Waits.{nearest}
 use Rattle.rules.specs.declared.Grid.{Grid}
 use Rattle.rules.specs.declared.Point.{Point}
 use Rattle.rules.specs.declared.Refusal.TheVariants.{Room}
-use Rattle.rules.specs.declared.Answer.TheVariants.{Done}
 use Rattle.rules.specs.declared.Three.{Three}
 use Rattle.demands.specs.Asking.{Ask, Asked, ask_all, numbers_given, met_damage, wanted_in_all, promised}
 use Rattle.demands.proofs.Around.{Around}
@@ -61,7 +61,7 @@ module _ {g : Grid} {reg : List ℕ} {q : Point} (S : Around g reg q) (tail : Li
   -- what an ask leaves once k rows were asked for
   abbrev leaves : ℕ → Ask → Asked
   leaves k a = (
-    paper_answer (Done (length (next_of S tail size room k a.wanted))),
+    paper_answer (Ok (length (next_of S tail size room k a.wanted))),
     state_at S tail size room (k + a.wanted),
     front_at S tail size room (k + a.wanted),
     over (each (written g reg q) (next_of S tail size room k a.wanted)) a.output,

@@ -6,6 +6,7 @@ use Prim.Native.Nat.{ℕ}
 use lib.Dec.{eqb}
 use lib.ListN.{length, get_or, take, drop, take-append-drop}
 use lib.Seq.{take_at}
+use Rattle.std.specs.Prelude.{Ok}
 use Rattle.laws.specs.Lists.{same}
 use Rattle.laws.proofs.Tests.{clash, fst_true, snd_true}
 use Rattle.laws.proofs.Same.{same_itself, same_true}
@@ -13,7 +14,6 @@ use Rattle.rules.specs.Tables.{tables, bad_lengths, built_entries, built_starts,
 use Rattle.rules.specs.Refusals.{Paper, paper, paper_checked, Verdict, pass, refuse, unless}
 use Rattle.rules.specs.Build.{register_verdict, is_built, checks}
 use Rattle.rules.specs.declared.Grid.{Grid}
-use Rattle.rules.specs.declared.Checked.TheVariants.{Yes, No}
 use Rattle.rules.proofs.Good.{Accepted}
 use Rattle.rules.proofs.Built.{good_lengths}
 use Rattle.rules.proofs.Papers.{refused_number}
@@ -39,16 +39,16 @@ module _ (g : Grid) (reg : List ℕ) where
       lengths : bad_lengths g (tables reg (built_starts g reg) []) ≡ false
       lengths = unfold bad_lengths built_tables in good_lengths g reg ok []
 
-  pub yes_to_built : Accepted g reg → (tail : List ℕ) → checks g reg (built_starts g reg) (built_entries g reg ++ tail) ≡ paper_checked Yes
+  pub yes_to_built : Accepted g reg → (tail : List ℕ) → checks g reg (built_starts g reg) (built_entries g reg ++ tail) ≡ paper_checked (Ok true)
   unfolding checks
   yes_to_built ok tail = rw (passes ok, built_is tail)
 
-  pub yes_to_no_other : (starts entries : List ℕ) → checks g reg starts entries ≡ paper_checked Yes
+  pub yes_to_no_other : (starts entries : List ℕ) → checks g reg starts entries ≡ paper_checked (Ok true)
       → (starts ≡ built_starts g reg) × (entries ≡ built_entries g reg ++ drop (length (built_entries g reg)) entries)
   unfolding checks paper_checked
   yes_to_no_other starts entries e = is_built_law starts entries (go (register_verdict g reg starts pass) (is_built g reg starts entries) e)
     where
-      go : (v : Verdict) (b : Bool) → unless v paper (paper_checked (cond b Yes No)) ≡ paper_checked Yes → b ≡ true
+      go : (v : Verdict) (b : Bool) → unless v paper (paper_checked (Ok b)) ≡ paper_checked (Ok true) → b ≡ true
       go (refuse r) b f = clash (sym (ap (λ (p : Paper). eqb p.number 0) f) ∙ refused_number r)
       go pass true f = refl
       go pass false f = ap (λ (p : Paper). eqb (get_or p.values 0 0) 1) f

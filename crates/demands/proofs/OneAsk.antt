@@ -7,6 +7,7 @@ use native.Mathlib.Nat.{le_trans}
 use native.Mathlib.Omega.{arith}
 use lib.ListN.{length, take, drop, length-map, length-take}
 use borrow.Author.Tests.{lt-ltb, le-ltb}
+use Rattle.std.specs.Prelude.{Ok}
 use Rattle.laws.specs.Lists.{each, over}
 use Rattle.rules.specs.Sizes.{tile_count}
 use Rattle.rules.specs.Register.{count}
@@ -17,7 +18,6 @@ use Rattle.rules.specs.Walk.{waiting_row, start_room, row_numbers, machine, fini
 use Rattle.rules.specs.declared.Grid.{Grid}
 use Rattle.rules.specs.declared.Point.{Point}
 use Rattle.rules.specs.declared.Refusal.TheVariants.{Room}
-use Rattle.rules.specs.declared.Answer.TheVariants.{Done}
 use Rattle.rules.specs.declared.Three.{Three}
 use Rattle.rules.specs.declared.Walk.{Walk}
 use Rattle.rules.proofs.Built.{good_lengths}
@@ -85,7 +85,7 @@ module _ {g : Grid} {reg : List ℕ} {q : Point} (S : Around g reg q) (tail : Li
     given_count = omega (arith, length-take j (drop k (in_order g reg q)))
 
     pub one_ask : asks g T (front_at k) (state_at k) j out
-        ≡ (paper_answer (Done (length (next_of k j))), state_at (k + j), front_at (k + j), over (each (written g reg q) (next_of k j)) out)
+        ≡ (paper_answer (Ok (length (next_of k j))), state_at (k + j), front_at (k + j), over (each (written g reg q) (next_of k j)) out)
     unfolding asks ask_outcome
     one_ask = rw (passes, ends, given_count, front_length k)
 

@@ -8,6 +8,7 @@ use Prim.Native.Nat.{ℕ, ◌+◌, ◌≤◌, ◌<◌}
 use lib.Dec.{ltb, eqb}
 use lib.ListN.{length}
 use borrow.Author.Tests.{le-ltb}
+use Rattle.std.specs.Prelude.{Ok, Err}
 use Rattle.laws.specs.Lists.{each, over, times}
 use Rattle.laws.proofs.Lists.{each_same}
 use Rattle.rules.specs.Sizes.{bad_point, most_radius}
@@ -20,7 +21,8 @@ use Rattle.rules.specs.declared.Grid.{Grid}
 use Rattle.rules.specs.declared.Probe.{Probe}
 use Rattle.rules.specs.declared.Refusal.{Refusal}
 use Rattle.rules.specs.declared.Refusal.TheVariants.{Lengths, Place, Radius, Room}
-use Rattle.rules.specs.declared.Listed.TheVariants as listed
+use Rattle.rules.specs.declared.ListRefusal.{ListRefusal}
+use Rattle.rules.specs.declared.ListRefusal.TheVariants.{At, Whole}
 use Rattle.rules.proofs.Good.{Accepted}
 use Rattle.rules.proofs.Built.{good_lengths, no_damage_in}
 use Rattle.rules.proofs.Visits.{read_below}
@@ -105,7 +107,7 @@ module _ (g : Grid) (reg tail : List ℕ) (ok : Accepted g reg) where
     where
       go : (v : Verdict) → unless v damages false ≡ false → (w : Option (Refusal × ℕ)) → first_refused g (built_tables g reg tail) 0 ps ≡ w
           → (u : Verdict) → unless u damages false ≡ false → (total : ℕ) (o e : List ℕ)
-          → eqb (judged_as v w u (paper_listed (listed.Done total), o, e) out ends).0.number 7 ≡ false
+          → eqb (judged_as v w u (paper_listed (Ok total), o, e) out ends).0.number 7 ≡ false
       go (refuse why) h w f u k total o e = h
       go pass h (some x) f u k total o e =
           ap (λ (v : Verdict). unless v damages false) (sym (first_found g (built_tables g reg tail) ps x.0 x.1 f).1)
@@ -129,7 +131,7 @@ module _ (g : Grid) (reg tail : List ℕ) (ok : Accepted g reg) where
     -- nothing is refused but room
     pub search_all_is : (out ends : List ℕ)
         → searches_all g (built_tables g reg tail) ps out ends
-        ≡ unless (lists_room (length (each (declared_writes g reg) ps)) (length ps) out ends) (λ why. (paper_listed (listed.Refused why), out, ends))
-        (paper_listed (listed.Done (length (each (declared_writes g reg) ps))), over (each (declared_writes g reg) ps) out, over (declared_ends g reg 0 ps) ends)
+        ≡ unless (lists_room (length (each (declared_writes g reg) ps)) (length ps) out ends) (λ why. (paper_listed (Err (Whole why)), out, ends))
+        (paper_listed (Ok (length (each (declared_writes g reg) ps))), over (each (declared_writes g reg) ps) out, over (declared_ends g reg 0 ps) ends)
     unfolding searches_all
     search_all_is out ends = rw (probes_pass, no_probe_refused, lists_declared ps, ends_declared 0 ps)

@@ -7,6 +7,7 @@ use mathlib.Core.List.{List, [], ◌++◌, map}
 use Prim.Native.Nat.{ℕ, ◌≤◌}
 use lib.ListN.{length}
 use borrow.Author.Tests.{lt-leb, le-ltb}
+use Rattle.std.specs.Prelude.{Ok}
 use Rattle.laws.specs.Lists.{each}
 use Rattle.laws.proofs.Apart.{self}
 use Rattle.laws.proofs.Counting.{pigeons}
@@ -19,7 +20,6 @@ use Rattle.rules.specs.Front.{insert_all, laid, directions}
 use Rattle.rules.specs.Walk.{waiting_row, group_if, start_entries, start_front, start_room, bad_start, start_verdict, walk_at, begun}
 use Rattle.rules.specs.declared.Grid.{Grid}
 use Rattle.rules.specs.declared.Point.{Point}
-use Rattle.rules.specs.declared.Answer.TheVariants.{Done}
 use Rattle.rules.specs.declared.Item.TheVariants.{Footprint}
 use Rattle.rules.proofs.Built.{no_damage_in, good_lengths}
 use Rattle.rules.proofs.Report.{own_runs}
@@ -72,6 +72,6 @@ module _ {g : Grid} {reg : List ℕ} {q : Point} (S : Around g reg q) (tail : Li
     unfolding start_verdict built_tables
     passes = rw (S.accepted.sizes, good_lengths g reg S.accepted tail, point_on, good_start, le-ltb _ _ room)
 
-    pub start_accepted : begun g T q front ≡ (paper_answer (Done 0), walk_at q (length (start_front g T q)) false, laid (length front) (start_front g T q))
+    pub start_accepted : begun g T q front ≡ (paper_answer (Ok 0), walk_at q (length (start_front g T q)) false, laid (length front) (start_front g T q))
     unfolding begun
     start_accepted = rw passes

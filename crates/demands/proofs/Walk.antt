@@ -7,6 +7,7 @@ use mathlib.Core.List.{List, [], Memᴰ}
 use Prim.Native.Nat.{ℕ, ◌*◌, ◌≤◌, zero-le}
 use lib.ListN.{length, take}
 use borrow.Author.Tests.{le-ltb}
+use Rattle.std.specs.Prelude.{Ok}
 use Rattle.laws.specs.Lists.{each, any}
 use Rattle.laws.proofs.Maps.{take_map}
 use Rattle.rules.specs.Sizes.{bad_point}
@@ -17,7 +18,6 @@ use Rattle.rules.specs.Walk.{start_front, start_room, row_numbers, walk_at, begu
 use Rattle.rules.specs.Waits.{nearest}
 use Rattle.rules.specs.declared.Grid.{Grid}
 use Rattle.rules.specs.declared.Point.{Point}
-use Rattle.rules.specs.declared.Answer.TheVariants.{Done}
 use Rattle.rules.proofs.Good.{Accepted}
 use Rattle.demands.specs.Asking.{Ask, Begun, Asked, ask_all, walks, numbers_given, met_damage, wanted_in_all, rows_written, promised}
 use Rattle.demands.proofs.Around.{Around, around}
@@ -35,7 +35,7 @@ module _ (g : Grid) (reg : List ℕ) (q : Point) (accepted : Accepted g reg) (on
   t = built_tables g reg tail
 
   -- a start is accepted, and lays its front; the numbers past it are 0
-  pub start_is : begun g t q front ≡ (paper_answer (Done 0), walk_at q (length (start_front g t q)) false, laid (length front) (start_front g t q))
+  pub start_is : begun g t q front ≡ (paper_answer (Ok 0), walk_at q (length (start_front g t q)) false, laid (length front) (start_front g t q))
   start_is = start_accepted S tail front room
 
   after_start : (l : List Ask) → walks g t q front l
@@ -47,7 +47,7 @@ module _ (g : Grid) (reg : List ℕ) (q : Point) (accepted : Accepted g reg) (on
     -- and all asks after it leave what is promised
     pub walk_is : walks g t q front l
         ≡ (
-          (paper_answer (Done 0), walk_at q (length (start_front g t q)) false, laid (length front) (start_front g t q)),
+          (paper_answer (Ok 0), walk_at q (length (start_front g t q)) false, laid (length front) (start_front g t q)),
           promised g t q (length front) [] false l,
         )
     walk_is =

@@ -1,6 +1,6 @@
 -- A walk as its caller makes it, a start and then asks one after the other, and what document 01 says of it on built tables.
 -- Assumes nothing.
-use Rattle.std.specs.Prelude.{Bool, true, false, ◌&&◌, ◌||◌, List, [], ◌∷◌, ◌++◌, map, ℕ, ◌*◌, ltb, eqb, length, take, drop, get_or}
+use Rattle.std.specs.Prelude.{Bool, true, false, ◌&&◌, ◌||◌, List, [], ◌∷◌, ◌++◌, map, ℕ, ◌*◌, ltb, eqb, length, take, drop, get_or, Ok}
 use Rattle.laws.specs.Lists.{each, over, total}
 use Rattle.rules.specs.Tables.{Tables}
 use Rattle.rules.specs.Refusals.{Paper, paper_answer}
@@ -9,7 +9,6 @@ use Rattle.rules.specs.Walk.{start_front, row_numbers, row_writes, walk_at, begu
 use Rattle.rules.specs.Waits.{front_after, nearest}
 use Rattle.rules.specs.declared.Grid.{Grid}
 use Rattle.rules.specs.declared.Point.{Point}
-use Rattle.rules.specs.declared.Answer.TheVariants.{Done}
 use Rattle.rules.specs.declared.Three.{Three}
 use Rattle.rules.specs.declared.Walk.{Walk}
 
@@ -79,7 +78,7 @@ promised g t q size given short (a ∷ more) =
     let new = take a.wanted (drop (length given) (nearest g t.reg q)) in
     let ended = short || ltb (length new) a.wanted in
     let waiting = waiting_now g t q (given ++ new) ended in
-    (paper_answer (Done (length new)), walk_at q (length waiting) false, laid size waiting, over (rows_written g t.reg q new) a.output)
+    (paper_answer (Ok (length new)), walk_at q (length waiting) false, laid size waiting, over (rows_written g t.reg q new) a.output)
     ∷ promised g t q size (given ++ new) ended more
 
 -- ---- all footprints by square, then number

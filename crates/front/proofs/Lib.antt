@@ -1,4 +1,3 @@
-pub mod Storing
 pub mod Merging
 pub mod Placing
 pub mod Moving

@@ -22,6 +22,5 @@ const MARKS: [u16; 256] = [
 pub fn marks(a: u32, b: u32) -> u16
     ensures { (result < 512) × ((px py : Place) → is_on result (position px py) ≡ marked px py a b) }
 {
-    let k = (16 * (a % 16) + b % 16) as usize;
-    MARKS[k]
+    MARKS[(16 * (a % 16) + b % 16) as usize]
 }

@@ -23,17 +23,14 @@ pub fn within(r: u32, a: Rect, b: Rect) -> bool
     requires { Near a × Near b }
     ensures { result ≡ within_is r a b }
 {
-    crate::square(a, b) <= crate::product(r, r)
+    crate::square(a, b) <= u64::from(r) * u64::from(r)
 }
 
 // The first column within r of a coordinate.
 pub fn first_column(g: Grid, r: u32, x: u32) -> u32
     ensures { result ≡ first_column g r x }
 {
-    if x < r {
-        return crate::column(g, 0);
-    }
-    crate::column(g, x - r)
+    crate::column(g, x.saturating_sub(r))
 }
 
 // The last column within r of a coordinate.
@@ -41,9 +38,5 @@ pub fn last_column(g: Grid, r: u32, x: u32) -> u32
     requires { (1 ≤ g.n) × (x ≤ most_tiles * most_side) × (r ≤ most_radius) }
     ensures { result ≡ last_column g r x }
 {
-    let c = crate::column(g, x + r);
-    if c < g.n {
-        return c;
-    }
-    g.n - 1
+    crate::column(g, x + r).min(g.n - 1)
 }

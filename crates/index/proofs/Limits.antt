@@ -6,6 +6,7 @@ use Prim.Native.Nat.{ℕ, ◌+◌, ◌≤◌}
 use native.Mathlib.Nat.{le_trans, mul-le-mul}
 use native.Mathlib.Omega.{arith}
 use lib.ListN.{length, drop_of_length-le}
+use Rattle.std.specs.Prelude.{Ok, Err}
 use Rattle.laws.specs.Lists.{over}
 use Rattle.rules.specs.Sizes.{most_entries, tile_count}
 use Rattle.rules.specs.Tables.{built_entries, built_starts}
@@ -13,7 +14,6 @@ use Rattle.rules.specs.Refusals.{pass, paper_answer}
 use Rattle.rules.specs.Build.{register_verdict, builds}
 use Rattle.rules.specs.declared.Grid.{Grid}
 use Rattle.rules.specs.declared.Refusal.TheVariants.{Room}
-use Rattle.rules.specs.declared.Answer.TheVariants.{Done, Refused}
 use Rattle.rules.proofs.Good.{Accepted, good_sizes, few_footprints}
 use Rattle.rules.proofs.Built.{most_entries_law}
 use Rattle.grid.proofs.Bounds.{square_most}
@@ -27,11 +27,11 @@ entries_most g reg ok =
 
 module _ (g : Grid) (reg starts entries : List ℕ) (passed : register_verdict g reg starts pass ≡ pass) where
   pub one_short : length entries + 1 ≡ length (built_entries g reg)
-      → builds g reg starts entries ≡ (paper_answer (Refused (Room (length (built_entries g reg)))), starts, entries)
+      → builds g reg starts entries ≡ (paper_answer (Err (Room (length (built_entries g reg)))), starts, entries)
   one_short h = sym (build_short g reg starts entries passed (length (built_entries g reg)) refl (omega arith))
 
   pub exact_fit : length entries ≡ length (built_entries g reg)
-      → builds g reg starts entries ≡ (paper_answer (Done (length (built_entries g reg))), built_starts g reg, built_entries g reg)
+      → builds g reg starts entries ≡ (paper_answer (Ok (length (built_entries g reg))), built_starts g reg, built_entries g reg)
   exact_fit h =
       sym (build_done g reg starts entries passed (length (built_entries g reg)) refl (omega arith) (built_starts g reg) (built_entries g reg) refl (sym whole))
     where

@@ -1,13 +1,13 @@
 -- What the check finds right is what the build leaves, and nothing else. Assumes nothing.
-use mathlib.Core.Path.{◌≡◌, refl, sym, ap, ◌∙◌}
-use mathlib.Core.Bool.{true, false, ◌&&◌, and-false}
+use mathlib.Core.Path.{◌≡◌, refl, ap, ◌∙◌}
+use mathlib.Core.Bool.{true, ◌&&◌}
 use mathlib.Core.List.{List}
 use Prim.Native.Nat.{ℕ, ◌+◌, ◌/◌, ◌%◌, ◌≤◌, ◌<◌}
 use native.Mathlib.Nat.{zero-add, div-lt_iff_lt-mul, mod-lt, le_refl}
 use native.Mathlib.Omega.{arith}
 use lib.Dec.{leb, eqb}
 use lib.ListN.{length, get_or, take}
-use borrow.Author.Tests.{leb-true, le-leb, lt-leb, eqb-true, eq-eqb, ne_eqb}
+use borrow.Author.Tests.{leb-true, le-leb, eqb-true, eq-eqb}
 use Rattle.laws.specs.Lists.{up_to, all, part, same}
 use Rattle.laws.proofs.Tests.{iff, fst_true, snd_true, both_true}
 use Rattle.laws.proofs.Lists.{all_on}
@@ -35,21 +35,6 @@ stands_at_law g reg k i = refl
 pub tile_on : (g : Grid) (k : ℕ) → 1 ≤ g.n → k < runs g → (k / 16 / g.n < g.n) × (k / 16 % g.n < g.n)
 unfolding runs tile_count
 tile_on g k pos h = ((div-lt_iff_lt-mul pos).1 (omega arith), mod-lt (k / 16) pos)
-
--- ---- one run, by its two starts
-
-module _ (g : Grid) (reg starts entries : List ℕ) (k a e : ℕ) (begins : a ≡ get_or starts k 0) (ends : e ≡ get_or starts (k + 1) 0) where
-  pub wrong_falling : e < a → run_right g reg starts entries k ≡ false
-  unfolding run_right
-  wrong_falling h = rw (← begins, ← ends, lt-leb a e h)
-
-  pub wrong_past : length entries < e → run_right g reg starts entries k ≡ false
-  unfolding run_right
-  wrong_past h = rw (← begins, ← ends, lt-leb e (length entries) h, and-false (leb a e))
-
-  pub run_decides : a ≤ e → e ≤ length entries → run_right g reg starts entries k ≡ is_run g reg k (part entries a e)
-  unfolding run_right
-  run_decides h l = rw (← begins, ← ends, le-leb a e h, le-leb e (length entries) l)
 
 -- ---- all runs
 
@@ -133,22 +118,3 @@ module _ (g : Grid) (reg starts entries : List ℕ) where
   -- the check says yes to what the build leaves and to nothing else
   pub right_is_built : length starts ≡ runs g + 1 → is_right g reg starts entries ≡ is_built g reg starts entries
   right_is_built l = iff (is_right g reg starts entries) (is_built g reg starts entries) (λ r. right_built r l) built_right
-
-  module _ (long : length starts ≡ runs g + 1) where
-    pub wrong_first : (get_or starts 0 0 ≡ 0 → ⊥) → false ≡ is_built g reg starts entries
-    unfolding is_right
-    wrong_first h = let e : is_right g reg starts entries ≡ false = rw (ne_eqb (get_or starts 0 0) 0 h) in sym e ∙ right_is_built long
-
-    pub wrong_last : (get_or starts (runs g) 0 ≡ length (built_entries g reg) → ⊥) → false ≡ is_built g reg starts entries
-    unfolding is_right
-    wrong_last h =
-        let e : is_right g reg starts entries ≡ false = rw (ne_eqb (get_or starts (runs g) 0) (length (built_entries g reg)) h, and-false (eqb (get_or starts 0 0) 0)) in
-        sym e ∙ right_is_built long
-
-    pub runs_decide : get_or starts 0 0 ≡ 0 → get_or starts (runs g) 0 ≡ length (built_entries g reg)
-        → all (run_right g reg starts entries) (up_to (runs g)) ≡ is_built g reg starts entries
-    unfolding is_right
-    runs_decide h k =
-        let e : is_right g reg starts entries ≡ all (run_right g reg starts entries) (up_to (runs g)) =
-        rw (eq-eqb (get_or starts 0 0) 0 h, eq-eqb (get_or starts (runs g) 0) (length (built_entries g reg)) k) in
-        sym e ∙ right_is_built long

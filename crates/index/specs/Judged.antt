@@ -1,8 +1,8 @@
--- What the judges of build and check say, as the rules' verdict. Assumes nothing.
-use Rattle.rules.specs.Refusals.{Verdict, pass, refuse}
-use Rattle.index.specs.declared.Judged.{Judged}
-use Rattle.index.specs.declared.Judged.TheVariants.{Passed, Refused}
+-- The starts that the judge of build and check lets pass. Assumes nothing.
+use Rattle.std.specs.Prelude.{◌≡◌, List, ℕ, ◌+◌, length}
+use Rattle.rules.specs.Tables.{runs}
+use Rattle.rules.specs.declared.Grid.{Grid}
 
-abbrev pub verdict : Judged → Verdict
-verdict Passed = pass
-verdict (Refused r) = refuse r
+-- a start for each run, and the end of the last
+abbrev pub AllStarts : Grid → List ℕ → Type 0
+AllStarts g starts = length starts ≡ runs g + 1

@@ -1,10 +1,11 @@
 -- The tiles that a rectangle touches, by columns and rows, and its runs there. Assumes nothing.
-use Rattle.std.specs.Prelude.{Bool, ◌&&◌, ℕ, ◌+◌, ◌-◌, ◌*◌, ◌/◌, ◌%◌, ◌≤◌, ◌<◌, ltb, leb, eqb}
+use Rattle.std.specs.Prelude.{Bool, List, ◌&&◌, ℕ, ◌+◌, ◌-◌, ◌*◌, ◌/◌, ◌%◌, ◌≤◌, ◌<◌, ltb, leb, eqb}
 use Rattle.rules.specs.Sizes.{column}
 use Rattle.rules.specs.Classes.{class_no}
+use Rattle.rules.specs.Register.{count, rectangle}
 use Rattle.rules.specs.declared.Grid.{Grid}
 use Rattle.rules.specs.declared.Rect.{Rect}
-use Rattle.index.specs.declared.Tiles.{Tiles}
+use Rattle.index.specs.declared.touched.Tiles.{Tiles}
 
 -- the columns and rows of a rectangle
 abbrev pub tiles_of : Grid → Rect → Tiles
@@ -41,3 +42,7 @@ pub record Within (n : ℕ) (s : Tiles) (m : ℕ) : Type 0 where
   pub rows : s.r0 ≤ s.r1
   pub row : s.r1 < n
   pub room : 16 * (n * n) ≤ m
+
+-- every footprint touches tiles of the grid, whose runs have their place among m numbers
+abbrev pub Lies : Grid → List ℕ → ℕ → Type 0
+Lies g reg m = (i : ℕ) → i < count reg → Within g.n (tiles_of g (rectangle g reg i)) m

@@ -1,61 +1,35 @@
 // A build and a check as a whole: refused as judged, or done.
 
 ghost use Rattle.std.specs.Prelude.{◌≡◌};
-ghost use Rattle.rules.specs.Refusals.{pass, paper_answer, paper_checked};
-ghost use Rattle.rules.specs.Build.{register_verdict, builds, checks};
-ghost use Rattle.index.specs.Judged.{verdict};
+ghost use Rattle.rules.specs.Refusals.{paper_answer, paper_checked};
+ghost use Rattle.rules.specs.Build.{builds, checks};
 
-use crate::{Judged, compare, sort};
-use rules::{Answer, Checked, Grid, Refusal};
-use tables::register;
-
-// Refusals 1, 2 and 3, or none of them.
-fn judge(g: Grid, reg: &[u32], starts: &[u32]) -> Judged
-    ensures { verdict result ≡ register_verdict g reg.now starts.now pass }
-{
-    if grid::bad_sizes(g) {
-        return Judged::Refused(Refusal::Sizes);
-    }
-    if register::bad_lengths(g, reg, starts) {
-        return Judged::Refused(Refusal::Lengths);
-    }
-    let bad = register::first_bad(g, reg);
-    if bad < register::count(reg) {
-        return Judged::Refused(Refusal::Footprint(bad as u32));
-    }
-    Judged::Passed
-}
+use crate::judged::Judged;
+use numbers::Form;
+use rules::{Grid, Refusal};
 
 // Builds the index of a register: leaves the starts, and the entries up to the count that it answers.
-pub fn build(g: Grid, reg: &[u32], starts: &mut [u32], entries: &mut [u32]) -> Answer
-    ensures { (paper_answer result, starts.new, entries.new) ≡ builds g reg.now starts.old entries.old }
+pub fn build<F: Form>(
+    g: Grid,
+    reg: &[F],
+    starts: &mut [F],
+    entries: &mut [F],
+) -> Result<u64, Refusal>
+    ensures { (paper_answer result, F.numbers starts.new, F.numbers entries.new) ≡ builds g (F.numbers reg.now) (F.numbers starts.old) (F.numbers entries.old) }
 {
-    match judge(g, reg, starts) {
-        Judged::Refused(why) => {
-            return Answer::Refused(why);
-        }
-        Judged::Passed => {}
+    let judged = Judged::of(g, reg, starts)?;
+    let need = judged.total();
+    if F::count(entries) < need {
+        return Err(Refusal::Room(need as u64));
     }
-    let need = sort::total(g, reg);
-    if numbers::count(entries) < need {
-        return Answer::Refused(Refusal::Room(need as u64));
-    }
-    sort::fill(g, reg, starts, entries);
-    Answer::Done(need as u64)
+    judged.fill(starts, entries);
+    Ok(need as u64)
 }
 
 // Whether the starts and the counted entries are what the build leaves; entries past the count are not looked at.
-pub fn check(g: Grid, reg: &[u32], starts: &[u32], entries: &[u32]) -> Checked
-    ensures { paper_checked result ≡ checks g reg.now starts.now entries.now }
+pub fn check<F: Form>(g: Grid, reg: &[F], starts: &[F], entries: &[F]) -> Result<bool, Refusal>
+    ensures { paper_checked result ≡ checks g (F.numbers reg.now) (F.numbers starts.now) (F.numbers entries.now) }
 {
-    match judge(g, reg, starts) {
-        Judged::Refused(why) => {
-            return Checked::Refused(why);
-        }
-        Judged::Passed => {}
-    }
-    if compare::is_built(g, reg, starts, entries) {
-        return Checked::Yes;
-    }
-    Checked::No
+    let judged = Judged::of(g, reg, starts)?;
+    Ok(judged.is_right(starts, entries))
 }

@@ -17,8 +17,8 @@ use Rattle.rules.specs.Join.{Pair, class_pairs, tile_pairs}
 use Rattle.rules.specs.declared.Grid.{Grid}
 use Rattle.rules.proofs.Report.{run_below}
 use Rattle.tables.proofs.Runs.{good_ends}
-use Rattle.join.specs.Levels.{Sound, Judged, bare_tile, marked_pairs}
-use Rattle.join.proofs.Sides.{run_stands, run_ends_good}
+use Rattle.join.specs.Levels.{Sound, Judged, bare_tile, marked_pairs, around_pairs}
+use Rattle.join.proofs.Sound.{run_stands, run_ends_good}
 use Rattle.join.proofs.Levels.{tile_pairs_law, class_pairs_law, class_empty, no_entries}
 
 -- ---- a side
@@ -56,7 +56,7 @@ none : (f : ℕ → List Pair) → ((k : ℕ) → k < 16 → f k ≡ []) → eac
 none f h = each_from f (λ k. []) 0 16 (λ k a b. h k b) ∙ each_empty (λ (k : ℕ). []) (up_to 16) (λ k. refl)
 
 module _ (g : Grid) (tr ts : Tables) (j : Judged g tr ts) (r t u : ℕ) where
-  pub bare_of_r : t < tile_count g → bare_tile tr.starts t ≡ true → tile_pairs g tr ts r t u ≡ []
+  bare_of_r : t < tile_count g → bare_tile tr.starts t ≡ true → tile_pairs g tr ts r t u ≡ []
   bare_of_r h e =
       tile_pairs_law g tr ts r t u
       ∙ none (class_pairs g tr ts r t u) (λ a k.
@@ -70,3 +70,8 @@ module _ (g : Grid) (tr ts : Tables) (j : Judged g tr ts) (r t u : ℕ) where
       ∙ none (marked_pairs g tr.reg ts r t u a (run_at tr (run_no t a))) (λ b l.
       no_entries g tr.reg ts r t u a (run_at tr (run_no t a)) b (run_no u b) (run_at ts (run_no u b)) refl refl
       (bare_run g ts j.of_s u b h l e)))
+
+-- R's tile with all of S's tiles
+pub bare_around : (g : Grid) (tr ts : Tables) (j : Judged g tr ts) (r t : ℕ) → t < tile_count g → bare_tile tr.starts t ≡ true → around_pairs g tr ts r t ≡ []
+unfolding around_pairs
+bare_around g tr ts j r t h e = each_empty (tile_pairs g tr ts r t) _ (λ u. bare_of_r g tr ts j r t u h e)

@@ -1,12 +1,10 @@
 -- Keeping pairs: one list after another, how many and in how much memory, and what is kept where all of it finds room. Assumes nothing.
 use mathlib.Core.Path.{◌≡◌, refl, sym, ap, ◌∙◌}
-use mathlib.Core.Bool.{Bool, true, false, cond}
 use mathlib.Core.List.{List, [], ◌∷◌, ◌++◌, append_assoc}
 use Prim.Native.Nat.{ℕ, ◌+◌, ◌*◌, ◌≤◌}
 use native.Mathlib.Nat.{lt_irrefl}
 use native.Mathlib.Omega.{arith}
-use lib.Dec.{leb}
-use lib.ListN.{length, set, drop, length-append, length-set}
+use lib.ListN.{length, set, drop, length-append}
 use lib.Seq.{set_at, drop-drop}
 use borrow.Author.Tests.{le-leb}
 use Rattle.laws.specs.Lists.{each, over}
@@ -22,19 +20,6 @@ pub kept_pairs : (s : Kept) (l : List Pair) → (kept s l).pairs ≡ s.pairs + l
 unfolding kept keep_one
 kept_pairs s [] = omega arith
 kept_pairs s (p ∷ l) = omega (arith, kept_pairs (keep_one s p) l)
-
-lay_length : (c : ℕ) (p : Pair) (m : List ℕ) → length (lay c p m) ≡ length m
-unfolding lay
-lay_length c p m = go (leb (2 * c + 2) (length m))
-  where
-    go : (b : Bool) → length (cond b (set (set m (2 * c) p.0) (2 * c + 1) p.1) m) ≡ length m
-    go true = simp length-set
-    go false = refl
-
-pub kept_length : (s : Kept) (l : List Pair) → length (kept s l).memory ≡ length s.memory
-unfolding kept keep_one
-kept_length s [] = refl
-kept_length s (p ∷ l) = kept_length (keep_one s p) l ∙ lay_length s.pairs p s.memory
 
 -- a pair laid behind w, which holds so many pairs
 lay_behind : (c : ℕ) (p : Pair) (w x : List ℕ) → length w ≡ 2 * c → 2 ≤ length x

@@ -32,10 +32,10 @@ unfolding position_of marked_in
 mark_at g t u a b p mask e h = ap (is_on mask) e ∙ h (place (column_of g u) (column_of g t)) (place (row_of g u) (row_of g t))
 
 module _ (g : Grid) (reg_r : List ℕ) (ts : Tables) (r t u a : ℕ) (l : List ℕ) (b : ℕ) where
-  pub marked_pairs_law : (k m : ℕ) (ls : List ℕ) → marked_in g t u a b ≡ true → k ≡ run_no t a → m ≡ run_no u b → ls ≡ run_at ts m
-      → marked_pairs g reg_r ts r t u a l b ≡ runs_pairs g reg_r ts.reg r k m l ls
+  pub marked_pairs_law : (k m : ℕ) (reg reg_s ls : List ℕ) → marked_in g t u a b ≡ true → reg ≡ reg_r → k ≡ run_no t a → reg_s ≡ ts.reg → m ≡ run_no u b → ls ≡ run_at ts (run_no u b)
+      → marked_pairs g reg_r ts r t u a l b ≡ runs_pairs g reg reg_s r k m l ls
   unfolding marked_pairs
-  marked_pairs_law k m ls e ek em el = rw (e, ek, el, em)
+  marked_pairs_law k m reg reg_s ls e er ek es em el = rw (e, er, ek, es, em, el)
 
   pub unmarked_pairs : marked_in g t u a b ≡ false → marked_pairs g reg_r ts r t u a l b ≡ []
   unfolding marked_pairs

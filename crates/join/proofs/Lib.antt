@@ -3,7 +3,7 @@ pub mod Loops
 pub mod Judging
 pub mod Around
 pub mod Listing
-pub mod Sides
+pub mod Sound
 pub mod Levels
 pub mod BareTiles
 pub mod Boxing

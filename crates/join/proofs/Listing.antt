@@ -1,10 +1,12 @@
 -- What a pair of entries that may be named needs and gives: rectangles near enough for their squares to fit, and the pair where it is listed.
 -- Assumes nothing.
-use mathlib.Core.Path.{◌≡◌}
-use mathlib.Core.Bool.{true, false}
+use mathlib.Core.Path.{◌≡◌, sym}
+use mathlib.Core.Bool.{Bool, true, false}
 use mathlib.Core.List.{List}
 use Prim.Native.Nat.{ℕ, ◌+◌, ◌*◌, ◌≤◌, ◌<◌}
+use Rattle.std.proofs.Common.{add-zero}
 use native.Mathlib.Omega.{arith}
+use mir.Val.{bool_byte}
 use lib.ListN.{length}
 use borrow.Author.Tests.{lt-leb}
 use Rattle.rules.specs.Sizes.{bad_sizes}
@@ -46,3 +48,9 @@ module _ (g : Grid) (reg_r reg_s : List ℕ) (r k m i j : ℕ) where
       → state (found + 1) out ≡ kept (state found out) (one_pair g reg_r reg_s r k m i j)
   unfolding keep_one lay
   one_counted found out e h = one_kept (state found out) (state (found + 1) out) e (rw (lt-leb _ _ h))
+
+  -- without room it counts as one, or as none
+  pub counted : (found : ℕ) (out : List ℕ) (near : Bool) → near ≡ lists g reg_r reg_s r k m (i, j) → length out < 2 * found + 2
+      → state (found + bool_byte near) out ≡ kept (state found out) (one_pair g reg_r reg_s r k m i j)
+  counted found out true e h = one_counted found out (sym e) h
+  counted found out false e h = rw add-zero (none_kept (state found out) (sym e))

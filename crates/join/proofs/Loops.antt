@@ -10,7 +10,7 @@ use Rattle.laws.specs.Lists.{from, up_to, each}
 use Rattle.laws.proofs.Remaining.{next_left, none_left}
 use Rattle.rules.specs.Join.{Pair}
 use Rattle.join.specs.Keeping.{Kept, kept}
-use Rattle.join.proofs.Keeping.{kept_append, kept_pairs, kept_length}
+use Rattle.join.proofs.Keeping.{kept_append, kept_pairs}
 
 -- ---- any loop
 
@@ -26,10 +26,6 @@ module _ (s₀ : Kept) (all : List Pair) (s : Kept) where
       let b = kept_pairs s₀ all in
       let f = ap (λ (x : Kept). x.pairs) e in
       omega (arith, length-append l rest)
-
-  -- the memory keeps its length
-  pub same_size : (rest : List Pair) → kept s rest ≡ kept s₀ all → length s.memory ≡ length s₀.memory
-  same_size rest e = sym (kept_length s rest) ∙ ap (λ (x : Kept). length x.memory) e ∙ kept_length s₀ all
 
 -- ---- over a list, from place i on
 
@@ -47,9 +43,6 @@ module _ (f : ℕ → List Pair) (l : List ℕ) (s₀ : Kept) where
   pub list_few : (s : Kept) (i most : ℕ) → i < length l → OverList s i → s₀.pairs + length (each f l) ≤ most → s.pairs + length (f (get_or l i 0)) ≤ most
   list_few s i most h e k =
       few_left s₀ (each f l) s (f (get_or l i 0)) (each f (drop (i + 1) l)) most (ap (kept s) (sym (next i h)) ∙ e) k
-
-  pub list_size : (s : Kept) (i : ℕ) → OverList s i → length s.memory ≡ length s₀.memory
-  list_size s i e = same_size s₀ (each f l) s (each f (drop i l)) e
 
   pub list_end : (s : Kept) (i : ℕ) → i ≤ length l → length l ≤ i → OverList s i → s ≡ kept s₀ (each f l)
   unfolding kept
@@ -77,9 +70,6 @@ module _ (f : ℕ → List Pair) (n : ℕ) (s₀ : Kept) where
   pub range_few : (s : Kept) (i most : ℕ) → i < n → OverRange s i → s₀.pairs + length (each f (up_to n)) ≤ most → s.pairs + length (f i) ≤ most
   range_few s i most h e k =
       few_left s₀ (each f (up_to n)) s (f i) (each f (from (i + 1) (n - (i + 1)))) most (ap (kept s) (sym (next_number i h)) ∙ e) k
-
-  pub range_size : (s : Kept) (i : ℕ) → OverRange s i → length s.memory ≡ length s₀.memory
-  range_size s i e = same_size s₀ (each f (up_to n)) s (each f (from i (n - i))) e
 
   pub range_end : (s : Kept) (i : ℕ) → n ≤ i → OverRange s i → s ≡ kept s₀ (each f (up_to n))
   unfolding kept

@@ -10,7 +10,7 @@ use borrow.Author.Tests.{lt-ltb, le-ltb}
 use Rattle.laws.specs.Lists.{each, over}
 use Rattle.rules.specs.Refusals.{Paper, paper_answer, fit}
 use Rattle.rules.specs.Join.{Pair, pair_writes}
-use Rattle.rules.specs.declared.Answer.TheVariants.{Done, Refused}
+use Rattle.std.specs.Prelude.{Ok, Err}
 use Rattle.rules.specs.declared.Refusal.TheVariants.{Room}
 use Rattle.rules.proofs.JoinCount.{two_a_pair}
 use Rattle.join.specs.Keeping.{Kept, state, kept}
@@ -28,12 +28,12 @@ module _ (l : List Pair) (out : List ℕ) (found : ℕ) where
   need e = two_a_pair l ∙ ap (λ (n : ℕ). 2 * n) (sym e)
 
   pub no_room : found ≡ length l → length out < 2 * found
-      → ◌≡◌ {A = Paper × List ℕ} (paper_answer (Refused (Room (2 * found))), out) (fit (length l) (each pair_writes l) out)
+      → ◌≡◌ {A = Paper × List ℕ} (paper_answer (Err (Room (2 * found))), out) (fit (length l) (each pair_writes l) out)
   unfolding paper_answer
   no_room e h = rw (need e, lt-ltb (length out) (2 * found) h)
 
   written : (out' : List ℕ) → found ≡ length l → 2 * found ≤ length out → out' ≡ over (each pair_writes l) out
-      → ◌≡◌ {A = Paper × List ℕ} (paper_answer (Done found), out') (fit (length l) (each pair_writes l) out)
+      → ◌≡◌ {A = Paper × List ℕ} (paper_answer (Ok found), out') (fit (length l) (each pair_writes l) out)
   written out' e h f =
       let k : length (each pair_writes l) ≤ length out = omega (arith, need e) in
       rw (le-ltb (length out) (length (each pair_writes l)) k, e, f)
@@ -41,7 +41,7 @@ module _ (l : List Pair) (out : List ℕ) (found : ℕ) where
   -- kept apart, and copied
   pub copied : (m m' out' : List ℕ) → state found m' ≡ kept (state 0 m) l → 2 * found ≤ length m → 2 * found ≤ length out
       → out' ≡ take (2 * found) m' ++ drop (2 * found) out
-      → ◌≡◌ {A = Paper × List ℕ} (paper_answer (Done found), out') (fit (length l) (each pair_writes l) out)
+      → ◌≡◌ {A = Paper × List ℕ} (paper_answer (Ok found), out') (fit (length l) (each pair_writes l) out)
   copied m m' out' e h k f =
       let n = found_all l m m' found e in
       let whole : m' ≡ over (each pair_writes l) m = ap (λ (s : Kept). s.memory) e ∙ kept_whole m l (omega arith) in
@@ -50,5 +50,5 @@ module _ (l : List Pair) (out : List ℕ) (found : ℕ) where
 
   -- laid into the output
   pub laid : (out' : List ℕ) → found ≡ length l → 2 * found ≤ length out → (again : ℕ) → state again out' ≡ kept (state 0 out) l
-      → ◌≡◌ {A = Paper × List ℕ} (paper_answer (Done found), out') (fit (length l) (each pair_writes l) out)
+      → ◌≡◌ {A = Paper × List ℕ} (paper_answer (Ok found), out') (fit (length l) (each pair_writes l) out)
   laid out' e h again f = written out' e h (ap (λ (s : Kept). s.memory) f ∙ kept_whole out l (omega arith))

@@ -6,7 +6,9 @@ use Rattle.rules.specs.Register.{rectangle}
 use Rattle.rules.specs.JoinSteps.{in_box}
 use Rattle.rules.specs.declared.Grid.{Grid}
 use Rattle.rules.specs.declared.Rect.{Rect}
+use Rattle.rules.specs.Tables.{Tables, run_at}
 use Rattle.grid.specs.Tiles.{Near}
+use Rattle.join.specs.Levels.{good_entries}
 
 -- a box holds the footprints of a list, and begins on the grid
 pub record Holds (g : Grid) (reg : List ℕ) (b : Rect) (l : List ℕ) : Type 0 where
@@ -20,3 +22,11 @@ by_distance g r k m = true
 -- what lies in two boxes is not listed: distance decides, and they are farther apart than r
 unfoldable pub apart : Grid → ℕ → ℕ → ℕ → Rect → Rect → Bool
 apart g r k m a b = by_distance g r k m && not (within r a b)
+
+-- a side's run k: its register, its number, its entries, which may all be named, and a box that holds their footprints
+pub record RunOf (g : Grid) (t : Tables) (k : ℕ) (reg : List ℕ) (no : ℕ) (l : List ℕ) (b : Rect) : Type 0 where
+  pub register : reg ≡ t.reg
+  pub numbered : no ≡ k
+  pub entries : l ≡ run_at t k
+  pub good : good_entries g reg l ≡ true
+  pub held : Holds g reg b l

@@ -1,29 +1,27 @@
 // What a join keeps of the pairs that it finds: it counts them all, and lays those that find room whole one behind the other.
-ghost use Rattle.std.specs.Prelude.{◌≡◌, ◌++◌, ◌≤◌, ◌<◌, length, take, drop};
+ghost use Rattle.std.specs.Prelude.{◌≡◌, ◌<◌};
 ghost use Rattle.join.specs.Keeping.{state, keep_one, most_pairs};
 
-// Lays a pair behind `found` others where there is room for both its numbers, and counts it.
-pub(crate) fn keep(i: u32, j: u32, found: u64, out: &mut [u32]) -> u64
-    requires { found < most_pairs }
-    ensures { state result out.new ≡ keep_one (state found out.old) (i, j) }
-{
-    let at = 2 * (found as usize);
-    if out.len() < at + 2 {
-        return found + 1;
-    }
-    out[at] = i;
-    out[at + 1] = j;
-    found + 1
+// How many pairs were found, and the memory that they are laid into.
+#[derive(Drop)]
+pub(crate) struct Found<'a> {
+    pub pairs: u64,
+    pub out: &'a mut [u32],
 }
 
-// Copies the first n numbers kept to the beginning of the output; what stands behind them there stays.
-pub(crate) fn copy(kept: &[u32], n: usize, out: &mut [u32])
-    requires { (n ≤ length kept.now) × (n ≤ length out.old) }
-    ensures { out.new ≡ take n kept.now ++ drop n out.old }
-{
-    let mut at = 0;
-    while at < n {
-        out[at] = kept[at];
-        at += 1;
+impl Found<'_> {
+    // Lays a pair behind those found where there is room for both its numbers, and counts it.
+    #[tactic(auto, unfolding(crate::specs::Keeping::keep_one, crate::specs::Keeping::lay))]
+    pub(crate) fn keep(&mut self, i: u32, j: u32)
+        requires { self.old.pairs < most_pairs }
+        ensures same_memory { self.new.out.ghost_name ≡ self.old.out.ghost_name }
+        ensures one_more { state self.new.pairs self.new.out.now ≡ keep_one (state self.old.pairs self.old.out.now) (i, j) }
+    {
+        let at = 2 * self.pairs as usize;
+        if at + 2 <= self.out.len() {
+            self.out[at] = i;
+            self.out[at + 1] = j;
+        }
+        self.pairs += 1;
     }
 }

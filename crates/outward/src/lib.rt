@@ -3,9 +3,9 @@
 
 ghost use Rattle.std.specs.Prelude.{◌≡◌};
 ghost use Rattle.rules.specs.Refusals.{paper, paper_answer, paper_listed, paper_checked};
-ghost use Rattle.outward.specs.Outward.{outward, mark_no, walk_of};
+ghost use Rattle.outward.specs.Outward.{told, outward, mark_no, walk_of};
 
-use rules::{Answer, Checked, Listed, Refusal, Walk};
+use rules::{ListRefusal, Refusal, Walk};
 
 // An answer as C has it.
 #[derive(Clone, Copy)]
@@ -14,93 +14,79 @@ pub struct Told {
     pub value: u64,
 }
 
+impl Told {
+    // The number, as C has it returned; the value goes where C reads it.
+    pub fn tell(self, value: &mut u64) -> u32
+        ensures { told result value.new ≡ self }
+    {
+        *value = self.value;
+        self.number
+    }
+}
+
 // A refusal's number and its value, 0 where it has none.
-pub fn told_refusal(r: Refusal) -> Told
-    ensures { result ≡ outward (paper r) }
-{
-    match r {
-        Refusal::Sizes => Told {
-            number: 1,
-            value: 0,
-        },
-        Refusal::Lengths => Told {
-            number: 2,
-            value: 0,
-        },
-        Refusal::Footprint(i) => Told {
-            number: 3,
-            value: i as u64,
-        },
-        Refusal::Place => Told {
-            number: 4,
-            value: 0,
-        },
-        Refusal::Radius => Told {
-            number: 5,
-            value: 0,
-        },
-        Refusal::Damage => Told {
-            number: 7,
-            value: 0,
-        },
-        Refusal::Room(need) => Told {
-            number: 6,
-            value: need,
-        },
-        Refusal::Text(line) => Told {
-            number: 8,
-            value: line as u64,
-        },
+impl From<Refusal> for Told {
+    ghost from_gives = { λ r t. t ≡ outward (paper r) };
+
+    #[tactic(auto, unfolding(crate::specs::Outward::outward, rules::specs::Refusals::paper))]
+    fn from(r: Refusal) -> Told {
+        let (number, value) = match r {
+            Refusal::Sizes => (1, 0),
+            Refusal::Lengths => (2, 0),
+            Refusal::Footprint(i) => (3, u64::from(i)),
+            Refusal::Place => (4, 0),
+            Refusal::Radius => (5, 0),
+            Refusal::Damage => (7, 0),
+            Refusal::Room(need) => (6, need),
+            Refusal::Text(line) => (8, u64::from(line)),
+        };
+        Told { number, value }
     }
 }
 
 // An answer's number and its value.
-pub fn told_answer(a: Answer) -> Told
-    ensures { result ≡ outward (paper_answer a) }
-{
-    match a {
-        Answer::Done(v) => Told {
-            number: 0,
-            value: v,
-        },
-        Answer::Refused(r) => told_refusal(r),
+impl From<Result<u64, Refusal>> for Told {
+    ghost from_gives = { λ a t. t ≡ outward (paper_answer a) };
+
+    #[tactic(auto, unfolding(crate::specs::Outward::outward, rules::specs::Refusals::paper_answer))]
+    fn from(a: Result<u64, Refusal>) -> Told {
+        match a {
+            Ok(value) => Told { number: 0, value },
+            Err(r) => Told::from(r),
+        }
     }
 }
 
 // The number of a list of searches, and its value: of a refusal that a probe meets, the probe's index.
-pub fn told_listed(a: Listed) -> Told
-    ensures { result ≡ outward (paper_listed a) }
-{
-    match a {
-        Listed::Done(v) => Told {
-            number: 0,
-            value: v,
-        },
-        Listed::At(why, i) => {
-            let t: Told = told_refusal(why);
-            Told {
-                number: t.number,
-                value: i as u64,
-            }
+impl From<Result<u64, ListRefusal>> for Told {
+    ghost from_gives = { λ a t. t ≡ outward (paper_listed a) };
+
+    #[tactic(auto, unfolding(crate::specs::Outward::outward, rules::specs::Refusals::paper_listed))]
+    fn from(a: Result<u64, ListRefusal>) -> Told {
+        match a {
+            Ok(value) => Told { number: 0, value },
+            Err(ListRefusal::At(why, i)) => Told {
+                value: u64::from(i),
+                ..Told::from(why)
+            },
+            Err(ListRefusal::Whole(why)) => Told::from(why),
         }
-        Listed::Refused(why) => told_refusal(why),
     }
 }
 
 // A check's number, and 1 for yes, 0 for no.
-pub fn told_checked(a: Checked) -> Told
-    ensures { result ≡ outward (paper_checked a) }
-{
-    match a {
-        Checked::Yes => Told {
-            number: 0,
-            value: 1,
-        },
-        Checked::No => Told {
-            number: 0,
-            value: 0,
-        },
-        Checked::Refused(r) => told_refusal(r),
+impl From<Result<bool, Refusal>> for Told {
+    ghost from_gives = { λ a t. t ≡ outward (paper_checked a) };
+
+    #[tactic(auto, unfolding(crate::specs::Outward::outward, rules::specs::Refusals::paper_checked))]
+    fn from(a: Result<bool, Refusal>) -> Told {
+        match a {
+            Ok(yes) => Told {
+                number: 0,
+                value: u64::from(yes),
+            },
+            Err(r) => Told::from(r),
+        }
     }
 }
 
@@ -108,16 +94,17 @@ pub fn told_checked(a: Checked) -> Told
 pub fn mark_no(set: bool) -> u32
     ensures { result ≡ mark_no set }
 {
-    if set { 1 } else { 0 }
+    u32::from(set)
 }
 
 // The state of a walk from its numbers.
+#[tactic(auto, unfolding(crate::specs::Outward::walk_of, crate::specs::Outward::is_marked))]
 pub fn walk_of(x: u32, y: u32, waiting: u64, mark: u32) -> Walk
     ensures { result ≡ walk_of x y waiting mark }
 {
     Walk {
-        x: x,
-        y: y,
+        x,
+        y,
         waiting: waiting as usize,
         damaged: mark != 0,
     }

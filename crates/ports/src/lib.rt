@@ -9,9 +9,10 @@ ghost use Rattle.rules.specs.Search.{searches};
 ghost use Rattle.rules.specs.Probes.{searches_all};
 ghost use Rattle.rules.specs.Tables.{tables};
 ghost use Rattle.rules.specs.Walk.{asks, begun};
-ghost use Rattle.outward.specs.Outward.{told as told_is, outward, outward₁, outward₂, outward_run, outward_start, outward_ask, walk_of};
+ghost use Rattle.outward.specs.Outward.{told as told_is, outward, outward₁, outward₂, outward_run, outward_start, outward_ask, state_of, walk_of};
 
-use rules::{Ends, Grid, Probe};
+use outward::Told;
+use rules::{Grid, Part, Probe, Walk};
 
 // Builds starts and entries; value: the entries, or what the refusal names.
 #[unsafe(no_mangle)]
@@ -26,9 +27,7 @@ pub extern "C" fn luv_build_n(
     ensures { (told_is result value.new, starts.new, entries.new) ≡ outward₂ (builds (record { n = n; side = side }) reg.now starts.old entries.old) }
 {
     let g = Grid { n, side };
-    let built = outward::told_answer(index::build(g, reg, starts, entries));
-    *value = built.value;
-    built.number
+    Told::from(index::build(g, reg, starts, entries)).tell(value)
 }
 
 // Whether starts and entries are what the build leaves; value: 1 for yes and 0 for no, or what the refusal names.
@@ -44,9 +43,7 @@ pub extern "C" fn luv_check_n(
     ensures { told_is result value.new ≡ outward (checks (record { n = n; side = side }) reg.now starts.now entries.now) }
 {
     let g = Grid { n, side };
-    let checked = outward::told_checked(index::check(g, reg, starts, entries));
-    *value = checked.value;
-    checked.number
+    Told::from(index::check(g, reg, starts, entries)).tell(value)
 }
 
 // Where the run of a class in a tile begins among the entries; value: how many it has. Both are 0 where it is refused.
@@ -65,15 +62,15 @@ pub extern "C" fn luv_run_n(
 {
     let g = Grid { n, side };
     match tables::run_ends(g, starts, entries.len(), tile, class) {
-        Ends::At(begin, end) => {
+        Ok(Part { begin, past }) => {
             *from = begin as u64;
-            *value = (end - begin) as u64;
+            *value = (past - begin) as u64;
             0
         }
-        Ends::Refused(why) => {
+        Err(why) => {
             *from = 0;
             *value = 0;
-            outward::told_refusal(why).number
+            Told::from(why).number
         }
     }
 }
@@ -95,9 +92,7 @@ pub extern "C" fn luv_search_n(
     ensures { (told_is result value.new, out.new) ≡ outward₁ (searches (record { n = n; side = side }) (tables reg.now starts.now entries.now) (record { x = x; y = y }) r out.old) }
 {
     let g = Grid { n, side };
-    let found = outward::told_answer(search::search(g, reg, starts, entries, x, y, r, out));
-    *value = found.value;
-    found.number
+    Told::from(search::search(g, reg, starts, entries, x, y, r, out)).tell(value)
 }
 
 // Writes the radius lists of all probes one behind the other, and each list's end; value: the numbers written, or the index of the probe that is
@@ -117,11 +112,19 @@ pub extern "C" fn luv_search_all_n(
     ensures { (told_is result value.new, out.new, ends.new) ≡ outward₂ (searches_all (record { n = n; side = side }) (tables reg.now starts.now entries.now) probes.now out.old ends.old) }
 {
     let g = Grid { n, side };
-    let listed = outward::told_listed(probes::search_all(
-        g, reg, starts, entries, probes, out, ends,
-    ));
-    *value = listed.value;
-    listed.number
+    let listed = probes::search_all(g, reg, starts, entries, probes, out, ends);
+    Told::from(listed).tell(value)
+}
+
+// Puts a walk's state where C reads it.
+#[tactic(auto, unfolding(outward::specs::Outward::state_of))]
+fn tell_state(state: Walk, x: &mut u32, y: &mut u32, waiting: &mut u64, mark: &mut u32)
+    ensures { (x.new, y.new, waiting.new, mark.new) ≡ state_of state }
+{
+    *x = state.x;
+    *y = state.y;
+    *waiting = state.waiting as u64;
+    *mark = outward::mark_no(state.damaged);
 }
 
 // Begins a walk from x, y, and hands back its state; value: 0, or what the refusal names.
@@ -145,15 +148,8 @@ pub extern "C" fn luv_start_n(
 {
     let g = Grid { n, side };
     let started = walk::start(g, reg, starts, entries, x, y, front);
-    let state = started.walk;
-    *x_after = state.x;
-    *y_after = state.y;
-    *waiting_after = state.waiting as u64;
-    *mark_after = outward::mark_no(state.damaged);
-    let answer = started.answer;
-    let begun = outward::told_answer(answer);
-    *value = begun.value;
-    begun.number
+    tell_state(started.walk, x_after, y_after, waiting_after, mark_after);
+    Told::from(started.answer).tell(value)
 }
 
 // Gives the next j rows of a walk whose state is x, y, waiting and mark, and hands back its state; value: the rows, or what the refusal names.
@@ -182,15 +178,8 @@ pub extern "C" fn luv_ask_n(
     let g = Grid { n, side };
     let before = outward::walk_of(x, y, waiting, mark);
     let asked = walk::ask(g, reg, starts, entries, front, before, j, out);
-    let after = asked.walk;
-    *x_after = after.x;
-    *y_after = after.y;
-    *waiting_after = after.waiting as u64;
-    *mark_after = outward::mark_no(after.damaged);
-    let answer = asked.answer;
-    let given = outward::told_answer(answer);
-    *value = given.value;
-    given.number
+    tell_state(asked.walk, x_after, y_after, waiting_after, mark_after);
+    Told::from(asked.answer).tell(value)
 }
 
 // Writes the pairs of R's and S's footprints within r; value: the pairs, or what the refusal names.
@@ -211,9 +200,8 @@ pub extern "C" fn luv_join_n(
     ensures { (told_is result value.new, out.new) ≡ outward₁ (joins (record { n = n; side = side }) (tables reg_r.now starts_r.now entries_r.now) (tables reg_s.now starts_s.now entries_s.now) r out.old) }
 {
     let g = Grid { n, side };
-    let joined = outward::told_answer(join::join(
+    let joined = join::join(
         g, reg_r, starts_r, entries_r, reg_s, starts_s, entries_s, r, out,
-    ));
-    *value = joined.value;
-    joined.number
+    );
+    Told::from(joined).tell(value)
 }

@@ -1,16 +1,16 @@
 -- Lists laid one behind the other in what is lent, and one number more in a list that is filled from the front. Assumes nothing.
 use mathlib.Core.Path.{◌≡◌, refl, sym, ap, ◌∙◌}
 use mathlib.Core.List.{List, [], ◌∷◌, ◌++◌, append_assoc, append-nil}
-use Prim.Native.Nat.{ℕ, suc, ◌+◌, ◌-◌, ◌≤◌, ◌<◌}
+use Prim.Native.Nat.{ℕ, suc, ◌+◌, ◌-◌, ◌≤◌, ◌<◌, min}
 use native.Mathlib.Omega.{arith}
 use lib.ListN.{length, take, drop, set, length-append, length-drop, take-append-drop, drop_of_length-le}
 use lib.Seq.{take-suc-set, drop-set-lt, drop-drop, length-take-le, take_all, take_at, drop_at}
-use borrow.Author.Tests.{le-leb, lt-leb, leb-true, lt-ltb, le-ltb}
+use borrow.Author.Tests.{le-leb, lt-leb, leb-true}
 use Rattle.laws.specs.Lists.{over}
 use Rattle.laws.proofs.Choices.{by_cond}
 use Rattle.laws.proofs.Lists.{empty}
 use Rattle.laws.proofs.Tests.{by_le}
-use Rattle.probes.specs.Listing.{keep_at, least}
+use Rattle.probes.specs.Listing.{keep_at}
 
 -- numbers w at place a, where they find room
 pub behind_length : (lent : List ℕ) (a : ℕ) (w : List ℕ) → a + length w ≤ length lent → length (take a lent ++ over w (drop a lent)) ≡ length lent
@@ -66,9 +66,6 @@ tail_back lent a l =
 
 -- ---- the place of a list
 
-pub least_right : (a b : ℕ) → least a b ≤ b
-least_right a b = by_le b a (λ h. rw (le-ltb a b h) (omega arith)) (λ h. rw (lt-ltb a b h) (omega arith))
-
 module _ (total : ℕ) (w lent : List ℕ) where
   pub kept_fits : total + length w ≤ length lent → keep_at total w lent ≡ take total lent ++ over w (drop total lent)
   unfolding keep_at
@@ -78,13 +75,13 @@ module _ (total : ℕ) (w lent : List ℕ) where
   unfolding keep_at
   kept_not h = rw (lt-leb (total + length w) (length lent) h)
 
-  module _ (a : ℕ) (e : a ≡ least total (length lent)) where
+  module _ (a : ℕ) (e : a ≡ min (length lent) total) where
     -- there is room for it in what is left
     pub place_fits : length w ≤ length (drop a lent) → take a lent ++ over w (drop a lent) ≡ keep_at total w lent
     place_fits h =
         by_le (length lent) total
         (λ k.
-        let f : a ≡ length lent = e ∙ rw (le-ltb total (length lent) k) in
+        let f : a ≡ length lent = omega arith in
         let n : length w ≡ 0 = omega (arith, length-drop a lent) in
         let z : w ≡ [] = empty w (omega arith) in
         let o : take a lent ++ over w (drop a lent) ≡ lent = ap (λ (l : List ℕ). take a lent ++ over l (drop a lent)) z ∙ take-append-drop a lent in
@@ -92,11 +89,11 @@ module _ (total : ℕ) (w lent : List ℕ) where
         (λ j. let s : a ≡ total = omega arith in ap (λ (b : ℕ). take b lent ++ over w (drop b lent)) s ∙ sym (kept_fits (omega arith)))
         (λ j. o ∙ sym (kept_not (omega arith))))
         (λ k.
-        let f : a ≡ total = e ∙ rw (lt-ltb total (length lent) k) in
+        let f : a ≡ total = omega arith in
         ap (λ (b : ℕ). take b lent ++ over w (drop b lent)) f ∙ sym (kept_fits (omega (arith, length-drop a lent))))
 
     pub place_lacks : length (drop a lent) < length w → lent ≡ keep_at total w lent
     place_lacks h =
         by_le (length lent) total
         (λ k. sym (kept_not (omega arith)))
-        (λ k. let f : a ≡ total = e ∙ rw (lt-ltb total (length lent) k) in sym (kept_not (omega (arith, length-drop a lent))))
+        (λ k. let f : a ≡ total = omega arith in sym (kept_not (omega (arith, length-drop a lent))))

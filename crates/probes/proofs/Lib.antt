@@ -1,7 +1,5 @@
 pub mod Behind
 pub mod Passes
-pub mod Answers
-pub mod Notes
 pub mod Searched
-pub mod Settled
 pub mod Turns
+pub mod Settled

@@ -2,24 +2,25 @@
 use mathlib.Core.Path.{◌≡◌, refl, sym, ap, ◌∙◌}
 use mathlib.Core.List.{List, [], ◌∷◌, ◌++◌}
 use mathlib.Core.Option.{Option, none, some}
-use Prim.Native.Nat.{ℕ, zero, suc, ◌+◌, ◌*◌, ◌≤◌, ◌<◌, zero-le}
+use Prim.Native.Nat.{ℕ, zero, suc, ◌+◌, ◌≤◌, ◌<◌}
 use native.Mathlib.Nat.{zero-add, not-suc-le-zero}
 use native.Mathlib.Omega.{arith}
 use lib.ListN.{length, get_or, take, drop, set, length-append, length-set, take-append-drop, drop_of_length-le}
 use lib.Seq.{drop-cons}
+use Rattle.std.specs.Prelude.{Ok, Err}
 use Rattle.laws.specs.Lists.{each, over}
 use Rattle.rules.specs.Tables.{Tables}
-use Rattle.rules.specs.Refusals.{Verdict, pass, refuse, unless}
+use Rattle.rules.specs.Refusals.{Verdict, pass, refuse}
 use Rattle.rules.specs.Search.{search_verdict}
 use Rattle.rules.specs.Probes.{point_of, probe_writes, probes_write, list_ends, first_refused, unless_at}
 use Rattle.rules.specs.declared.Grid.{Grid}
 use Rattle.rules.specs.declared.Probe.{Probe}
 use Rattle.rules.specs.declared.Refusal.{Refusal}
-use Rattle.rules.specs.declared.Listed.{Listed}
-use Rattle.rules.specs.declared.Listed.TheVariants.{Done, At, Refused}
-use Rattle.rules.proofs.FewHits.{few_written, first_passes}
+use Rattle.rules.specs.declared.ListRefusal.{ListRefusal}
+use Rattle.rules.specs.declared.ListRefusal.TheVariants.{At}
+use Rattle.rules.proofs.FewHits.{first_passes}
 use Rattle.rules.proofs.FirstRefused.{by_verdict}
-use Rattle.probes.specs.Listing.{keep_at, Pass, list_one, list_most, so_far_of, no_probe, list_from, list_first}
+use Rattle.probes.specs.Listing.{Listed, keep_at, Pass, list_at, list_one, no_probe, list_from, list_all}
 use Rattle.probes.proofs.Behind.{kept_length, kept_fits, behind_more, front_more}
 
 -- ---- one probe
@@ -31,48 +32,36 @@ module _ (g : Grid) (t : Tables) (p : Probe) (i : ℕ) where
   -- what a search that is not refused leaves
   abbrev after : ℕ → List ℕ → List ℕ → Pass
   after total lent ends =
-      (Done (total + length (probe_writes g t p)), keep_at total (probe_writes g t p) lent, set ends i (total + length (probe_writes g t p)))
+      (Ok (total + length (probe_writes g t p)), keep_at total (probe_writes g t p) lent, set ends i (total + length (probe_writes g t p)))
 
-  pub one_passes : verdict ≡ pass → (total : ℕ) (lent ends : List ℕ) → list_one g t p i (Done total) lent ends ≡ after total lent ends
-  unfolding list_one
+  pub one_passes : verdict ≡ pass → (total : ℕ) (lent ends : List ℕ) → list_one g t p i (Ok total) lent ends ≡ after total lent ends
+  unfolding list_one list_at
   one_passes e total lent ends = rw e
 
   pub one_refused : (why : Refusal) → verdict ≡ refuse why → (total : ℕ) (lent ends : List ℕ)
-      → ◌≡◌ {A = Pass} (list_one g t p i (Done total) lent ends) (At why i, lent, ends)
-  unfolding list_one
+      → ◌≡◌ {A = Pass} (list_one g t p i (Ok total) lent ends) (Err (At why i), lent, ends)
+  unfolding list_one list_at
   one_refused why e total lent ends = rw e
 
-  -- ---- the numbers listed so far, and the lengths
-
-  pub listed_below : (so : Listed) (lent ends : List ℕ) → so_far_of so ≤ i * list_most → so_far_of (list_one g t p i so lent ends).0 ≤ suc i * list_most
+  stays : (why : ListRefusal) (lent ends : List ℕ) → ◌≡◌ {A = Pass} (list_one g t p i (Err why) lent ends) (Err why, lent, ends)
   unfolding list_one
-  listed_below (Done total) lent ends h = go verdict refl
-    where
-      go : (v : Verdict) → verdict ≡ v → so_far_of (unless v (λ why. (At why i, lent, ends)) (after total lent ends)).0 ≤ suc i * list_most
-      go pass e = omega (arith, few_written g t p e)
-      go (refuse why) e = zero-le
-  listed_below (At why j) lent ends h = zero-le
-  listed_below (Refused why) lent ends h = zero-le
+  stays why lent ends = refl
+
+  -- ---- the lengths
 
   pub lent_length : (so : Listed) (lent ends : List ℕ) → length (list_one g t p i so lent ends).1 ≡ length lent
-  unfolding list_one
-  lent_length (Done total) lent ends = go verdict
-    where
-      go : (v : Verdict) → length (unless v (λ why. (At why i, lent, ends)) (after total lent ends)).1 ≡ length lent
-      go pass = kept_length total (probe_writes g t p) lent
-      go (refuse why) = refl
-  lent_length (At why j) lent ends = refl
-  lent_length (Refused why) lent ends = refl
+  lent_length (Ok total) lent ends =
+      by_verdict verdict
+      (λ v. ap (λ (s : Pass). length s.1) (one_passes v total lent ends) ∙ kept_length total (probe_writes g t p) lent)
+      (λ why v. ap (λ (s : Pass). length s.1) (one_refused why v total lent ends))
+  lent_length (Err why) lent ends = ap (λ (s : Pass). length s.1) (stays why lent ends)
 
   pub ends_length : (so : Listed) (lent ends : List ℕ) → length (list_one g t p i so lent ends).2 ≡ length ends
-  unfolding list_one
-  ends_length (Done total) lent ends = go verdict
-    where
-      go : (v : Verdict) → length (unless v (λ why. (At why i, lent, ends)) (after total lent ends)).2 ≡ length ends
-      go pass = length-set ends i (total + length (probe_writes g t p))
-      go (refuse why) = refl
-  ends_length (At why j) lent ends = refl
-  ends_length (Refused why) lent ends = refl
+  ends_length (Ok total) lent ends =
+      by_verdict verdict
+      (λ v. ap (λ (s : Pass). length s.2) (one_passes v total lent ends) ∙ length-set ends i (total + length (probe_writes g t p)))
+      (λ why v. ap (λ (s : Pass). length s.2) (one_refused why v total lent ends))
+  ends_length (Err why) lent ends = ap (λ (s : Pass). length s.2) (stays why lent ends)
 
 -- ---- all probes
 
@@ -123,25 +112,25 @@ module _ (g : Grid) (t : Tables) (ps : List Probe) where
   -- ---- one turn
 
   turn_passes : (k i total : ℕ) (lent ends : List ℕ) → verdict_at i ≡ pass
-      → list_from g t ps (suc k) i (Done total, lent, ends) ≡ list_from g t ps k (suc i) (after g t (probe i) i total lent ends)
+      → list_from g t ps (suc k) i (Ok total, lent, ends) ≡ list_from g t ps k (suc i) (after g t (probe i) i total lent ends)
   unfolding list_from
   turn_passes k i total lent ends v = ap (list_from g t ps k (suc i)) (one_passes g t (probe i) i v total lent ends)
 
-  at_stays : (k i : ℕ) (why : Refusal) (j : ℕ) (lent ends : List ℕ) → ◌≡◌ {A = Pass} (list_from g t ps k i (At why j, lent, ends)) (At why j, lent, ends)
+  pub err_stays : (k i : ℕ) (why : ListRefusal) (lent ends : List ℕ) → ◌≡◌ {A = Pass} (list_from g t ps k i (Err why, lent, ends)) (Err why, lent, ends)
   unfolding list_from list_one
-  at_stays zero i why j lent ends = refl
-  at_stays (suc k) i why j lent ends = at_stays k (suc i) why j lent ends
+  err_stays zero i why lent ends = refl
+  err_stays (suc k) i why lent ends = err_stays k (suc i) why lent ends
 
   turn_refused : (k i total : ℕ) (lent ends : List ℕ) (why : Refusal) → verdict_at i ≡ refuse why
-      → ◌≡◌ {A = Pass} (list_from g t ps (suc k) i (Done total, lent, ends)) (At why i, lent, ends)
+      → ◌≡◌ {A = Pass} (list_from g t ps (suc k) i (Ok total, lent, ends)) (Err (At why i), lent, ends)
   unfolding list_from
   turn_refused k i total lent ends why v =
-      ap (list_from g t ps k (suc i)) (one_refused g t (probe i) i why v total lent ends) ∙ at_stays k (suc i) why i lent ends
+      ap (list_from g t ps k (suc i)) (one_refused g t (probe i) i why v total lent ends) ∙ err_stays k (suc i) (At why i) lent ends
 
   -- ---- the first that is refused
 
   refused_from : (k i total : ℕ) (lent ends : List ℕ) (why : Refusal) (j : ℕ) → i + k ≡ length ps
-      → first_refused g t i (drop i ps) ≡ some (why, j) → (list_from g t ps k i (Done total, lent, ends)).0 ≡ At why j
+      → first_refused g t i (drop i ps) ≡ some (why, j) → (list_from g t ps k i (Ok total, lent, ends)).0 ≡ Err (At why j)
   unfolding first_refused
   refused_from zero i total lent ends why j e f =
       let n : ◌≡◌ {A = Option (Refusal × ℕ)} none (some (why, j)) = sym (ap (first_refused g t i) (none_left i e)) ∙ f in
@@ -153,32 +142,32 @@ module _ (g : Grid) (t : Tables) (ps : List Probe) where
       ∙ refused_from k (suc i) _ _ _ why j (omega arith) (sym (refused_later i (omega arith) v) ∙ f))
       (λ u v.
       ap (λ (s : Pass). s.0) (turn_refused k i total lent ends u v)
-      ∙ ap (λ (o : Option (Refusal × ℕ)). unless_at o (λ w m. At w m) (Done 0)) (sym (refused_here i (omega arith) u v) ∙ f))
+      ∙ ap (λ (o : Option (Refusal × ℕ)). unless_at o (λ w m. Err (At w m)) (Ok 0)) (sym (refused_here i (omega arith) u v) ∙ f))
 
   pub pass_refused : (lent ends : List ℕ) (why : Refusal) (i : ℕ) → first_refused g t 0 ps ≡ some (why, i)
-      → (list_first g t ps (length ps) lent ends).0 ≡ At why i
-  unfolding list_first
+      → (list_all g t ps lent ends).0 ≡ Err (At why i)
+  unfolding list_all
   pass_refused lent ends why i f = refused_from (length ps) 0 0 lent ends why i (omega arith) f
 
   -- ---- every list and every end
 
   counts_from : (k i total : ℕ) (lent ends : List ℕ) → i + k ≡ length ps → first_refused g t i (drop i ps) ≡ none
-      → (list_from g t ps k i (Done total, lent, ends)).0 ≡ Done (total + length (lists_from i))
+      → (list_from g t ps k i (Ok total, lent, ends)).0 ≡ Ok (total + length (lists_from i))
   unfolding list_from probes_write
   counts_from zero i total lent ends e f =
       let n : length (lists_from i) ≡ 0 = ap (λ (l : List Probe). length (probes_write g t l)) (none_left i e) in
-      ap Done (omega arith)
+      ap Ok (omega arith)
   counts_from (suc k) i total lent ends e f =
       let n = none_next i (omega arith) f in
       let w = probe_writes g t (probe i) in
       let l : length (lists_from i) ≡ length w + length (lists_from (suc i)) = ap length (lists_next i (omega arith)) ∙ length-append w (lists_from (suc i)) in
       ap (λ (s : Pass). s.0) (turn_passes k i total lent ends n.0)
       ∙ counts_from k (suc i) (total + length w) (keep_at total w lent) (set ends i (total + length w)) (omega arith) n.1
-      ∙ ap Done (omega arith)
+      ∙ ap Ok (omega arith)
 
   writes_from : (k i total : ℕ) (lent ends : List ℕ) → i + k ≡ length ps → first_refused g t i (drop i ps) ≡ none
       → total + length (lists_from i) ≤ length lent
-      → (list_from g t ps k i (Done total, lent, ends)).1 ≡ take total lent ++ over (lists_from i) (drop total lent)
+      → (list_from g t ps k i (Ok total, lent, ends)).1 ≡ take total lent ++ over (lists_from i) (drop total lent)
   unfolding list_from probes_write
   writes_from zero i total lent ends e f r =
       sym (take-append-drop total lent) ∙ ap (λ (l : List Probe). take total lent ++ over (probes_write g t l) (drop total lent)) (sym (none_left i e))
@@ -194,7 +183,7 @@ module _ (g : Grid) (t : Tables) (ps : List Probe) where
       ∙ ap (λ (m : List ℕ). take total lent ++ over m (drop total lent)) (sym x)
 
   ends_from_law : (k i total : ℕ) (lent ends : List ℕ) → i + k ≡ length ps → first_refused g t i (drop i ps) ≡ none → length ps ≤ length ends
-      → (list_from g t ps k i (Done total, lent, ends)).2 ≡ take i ends ++ over (ends_from total i) (drop i ends)
+      → (list_from g t ps k i (Ok total, lent, ends)).2 ≡ take i ends ++ over (ends_from total i) (drop i ends)
   unfolding list_from list_ends
   ends_from_law zero i total lent ends e f r =
       sym (take-append-drop i ends) ∙ ap (λ (l : List Probe). take i ends ++ over (list_ends g t total l) (drop i ends)) (sym (none_left i e))
@@ -207,16 +196,16 @@ module _ (g : Grid) (t : Tables) (ps : List Probe) where
       ∙ ap (λ (m : List ℕ). take i ends ++ over m (drop i ends)) (sym (ends_next total i (omega arith)))
 
   module _ (none_is : first_refused g t 0 ps ≡ none) (lent ends : List ℕ) where
-    pub pass_counts : (list_first g t ps (length ps) lent ends).0 ≡ Done (length (probes_write g t ps))
-    unfolding list_first
-    pass_counts = counts_from (length ps) 0 0 lent ends (omega arith) none_is ∙ ap Done (zero-add (length (probes_write g t ps)))
+    pub pass_counts : (list_all g t ps lent ends).0 ≡ Ok (length (probes_write g t ps))
+    unfolding list_all
+    pass_counts = counts_from (length ps) 0 0 lent ends (omega arith) none_is ∙ ap Ok (zero-add (length (probes_write g t ps)))
 
-    pub pass_writes : length (probes_write g t ps) ≤ length lent → (list_first g t ps (length ps) lent ends).1 ≡ over (probes_write g t ps) lent
-    unfolding list_first
+    pub pass_writes : length (probes_write g t ps) ≤ length lent → (list_all g t ps lent ends).1 ≡ over (probes_write g t ps) lent
+    unfolding list_all
     pass_writes h = writes_from (length ps) 0 0 lent ends (omega arith) none_is (omega arith)
 
-    pub pass_ends : length ps ≤ length ends → (list_first g t ps (length ps) lent ends).2 ≡ over (list_ends g t 0 ps) ends
-    unfolding list_first
+    pub pass_ends : length ps ≤ length ends → (list_all g t ps lent ends).2 ≡ over (list_ends g t 0 ps) ends
+    unfolding list_all
     pass_ends h = ends_from_law (length ps) 0 0 lent ends (omega arith) none_is h
 
   -- ---- lengths
@@ -231,15 +220,10 @@ module _ (g : Grid) (t : Tables) (ps : List Probe) where
   ends_stay zero i s = refl
   ends_stay (suc k) i s = ends_stay k (suc i) _ ∙ ends_length g t (probe i) i s.0 s.1 s.2
 
-  pub pass_lent_length : (k : ℕ) (lent ends : List ℕ) → length (list_first g t ps k lent ends).1 ≡ length lent
-  unfolding list_first
-  pass_lent_length k lent ends = lent_from k 0 (Done 0, lent, ends)
+  pub pass_lent_length : (lent ends : List ℕ) → length (list_all g t ps lent ends).1 ≡ length lent
+  unfolding list_all
+  pass_lent_length lent ends = lent_from (length ps) 0 (Ok 0, lent, ends)
 
-  pub pass_ends_length : (k : ℕ) (lent ends : List ℕ) → length (list_first g t ps k lent ends).2 ≡ length ends
-  unfolding list_first
-  pass_ends_length k lent ends = ends_stay k 0 (Done 0, lent, ends)
-
-  -- a pass over no probe
-  pub pass_none : (lent ends : List ℕ) → ◌≡◌ {A = Pass} (list_first g t ps 0 lent ends) (Done 0, lent, ends)
-  unfolding list_first list_from
-  pass_none lent ends = refl
+  pub pass_ends_length : (lent ends : List ℕ) → length (list_all g t ps lent ends).2 ≡ length ends
+  unfolding list_all
+  pass_ends_length lent ends = ends_stay (length ps) 0 (Ok 0, lent, ends)

@@ -8,6 +8,7 @@ use native.Mathlib.Omega.{arith}
 use lib.Dec.{leb, eqb}
 use lib.ListN.{length}
 use borrow.Author.Tests.{eqb-false, ne_eqb}
+use Rattle.std.specs.Prelude.{Option, Some, None}
 use Rattle.laws.specs.Lists.{from, each, total}
 use Rattle.laws.proofs.Tests.{by_le, neither}
 use Rattle.laws.proofs.Totals.{total_append, total_map, total_same, length_part}
@@ -20,14 +21,13 @@ use Rattle.rules.specs.Tables.{Tables, tile_runs, run_start, run_end, run_at, go
 use Rattle.rules.specs.Search.{allowed_run, allowed_runs}
 use Rattle.rules.specs.Front.{row, direction_no, encoded, decoded}
 use Rattle.rules.specs.Walk.{group_exists, tile_in_group, group_tiles, waiting_row, group_if, group_brings, tile_brings, damage, bring, hand, damage_if, row_writes, item_move, read_move, move, tile_weight, group_weight, weight}
+use Rattle.rules.specs.declared.Row.{Row}
 use Rattle.rules.specs.declared.Grid.{Grid}
 use Rattle.rules.specs.declared.Point.{Point}
 use Rattle.rules.specs.declared.Direction.{Direction}
 use Rattle.rules.specs.declared.Item.{Item}
 use Rattle.rules.specs.declared.Item.TheVariants.{Group, Tile, Footprint}
 use Rattle.rules.specs.declared.Three.{Three}
-use Rattle.rules.specs.declared.Read.{Read}
-use Rattle.rules.specs.declared.Read.TheVariants.{Known, Unknown}
 use Rattle.rules.proofs.Encoding.{InRange, read_stands, Stands}
 
 -- ---- the burden of a row: its weight, but 1 for a group of level 0, which is damage when it is taken
@@ -214,6 +214,6 @@ module _ (g : Grid) (t : Tables) where
     unfolding move
     lighter a new = go (decoded a) (read_stands a)
       where
-        go : (o : Read) → Stands a o → read_move g t q o ≡ bring new → total (burden g t) new < burden g t a
-        go Unknown s e = no_damage new e
-        go (Known r) s e = let p = s r refl in rw (← p.0) (item_lighter r.square r.item new p.1 e)
+        go : (o : Option Row) → Stands a o → read_move g t q o ≡ bring new → total (burden g t) new < burden g t a
+        go None s e = no_damage new e
+        go (Some r) s e = let p = s r refl in rw (← p.0) (item_lighter r.square r.item new p.1 e)

@@ -6,6 +6,7 @@ use native.Mathlib.Nat.{not-suc-le-zero}
 use native.Mathlib.Omega.{arith}
 use lib.Dec.{eqb, ltb}
 use borrow.Author.Tests.{lt-ltb, eqb-true, eqb-false, ltb-true}
+use Rattle.std.specs.Prelude.{Option, Some, None}
 use Rattle.laws.proofs.Choices.{by_cond}
 use Rattle.rules.specs.Sizes.{most_tiles, most_footprints}
 use Rattle.rules.specs.Front.{three, row, direction_no, direction, encoded_item, encoded, decoded}
@@ -15,8 +16,6 @@ use Rattle.rules.specs.declared.Item.{Item}
 use Rattle.rules.specs.declared.Item.TheVariants.{Group, Tile, Footprint}
 use Rattle.rules.specs.declared.Row.{Row}
 use Rattle.rules.specs.declared.Three.{Three}
-use Rattle.rules.specs.declared.Read.{Read}
-use Rattle.rules.specs.declared.Read.TheVariants.{Known, Unknown}
 
 -- ---- directions
 
@@ -49,20 +48,20 @@ InRange (Tile t) = t < most_tiles * most_tiles
 InRange (Footprint i) = i < most_footprints
 
 module _ (s : ℕ) where
-  group_back : (k l : ℕ) (d : Direction) → k < 4 → direction k ≡ d → l < 64 → decoded (three s 0 (k * 64 + l)) ≡ Known (row s (Group d l))
+  group_back : (k l : ℕ) (d : Direction) → k < 4 → direction k ≡ d → l < 64 → decoded (three s 0 (k * 64 + l)) ≡ Some (row s (Group d l))
   unfolding decoded
   group_back k l d h e m =
       let q : (k * 64 + l) / 64 ≡ k = omega arith in
       let r : (k * 64 + l) % 64 ≡ l = omega arith in
       simp (lt-ltb (k * 64 + l) 256 (omega arith), q, r, e)
 
-  item_back : (i : Item) → InRange i → decoded (encoded_item s i) ≡ Known (row s i)
+  item_back : (i : Item) → InRange i → decoded (encoded_item s i) ≡ Some (row s i)
   unfolding decoded
   item_back (Group d l) h = group_back (direction_no d) l d (direction_no_below d) (direction_back d) h
   item_back (Tile t) h = simp (lt-ltb _ _ h)
   item_back (Footprint i) h = simp (lt-ltb _ _ h)
 
-pub decoded_encoded : (r : Row) → InRange r.item → decoded (encoded r) ≡ Known r
+pub decoded_encoded : (r : Row) → InRange r.item → decoded (encoded r) ≡ Some r
 unfolding encoded
 decoded_encoded r h = item_back r.square r.item h
 
@@ -72,13 +71,13 @@ group_number : (n : ℕ) → n < 256 → direction_no (direction (n / 64)) * 64 
 group_number n h = let e = number_of_direction (n / 64) (omega arith) in omega arith
 
 -- what three numbers stand for has these numbers, and they are in range
-abbrev pub Stands : Three → Read → Type 0
-Stands a o = (r : Row) → o ≡ Known r → (encoded r ≡ a) × InRange r.item
+abbrev pub Stands : Three → Option Row → Type 0
+Stands a o = (r : Row) → o ≡ Some r → (encoded r ≡ a) × InRange r.item
 
-no_unknown : (a : Three) → Stands a Unknown
+no_unknown : (a : Three) → Stands a None
 no_unknown a r e = let z : ◌≡◌ {A = ℕ} 0 1 = cc in absurd (not-suc-le-zero {n = 0} (omega arith))
 
-stands : (a : Three) (i : Item) → encoded_item a.square i ≡ a → InRange i → Stands a (Known (row a.square i))
+stands : (a : Three) (i : Item) → encoded_item a.square i ≡ a → InRange i → Stands a (Some (row a.square i))
 unfolding encoded
 stands a i e h r q =
     let p : ◌≡◌ {A = Row} (row a.square i) r = cc in
@@ -99,8 +98,8 @@ read_stands a =
     (λ h. stands a _ (ap (λ (j : ℕ). three a.square j n) (sym (eqb-true _ _ k))) (ltb-true _ _ h)) (λ _. no_unknown a))
     (λ _. no_unknown a)))
 
-pub encoded_decoded : (a : Three) (r : Row) → decoded a ≡ Known r → encoded r ≡ a
+pub encoded_decoded : (a : Three) (r : Row) → decoded a ≡ Some r → encoded r ≡ a
 encoded_decoded a r e = (read_stands a r e).0
 
-pub decoded_in_range : (a : Three) (r : Row) → decoded a ≡ Known r → InRange r.item
+pub decoded_in_range : (a : Three) (r : Row) → decoded a ≡ Some r → InRange r.item
 decoded_in_range a r e = (read_stands a r e).1

@@ -10,6 +10,7 @@ use native.Mathlib.Omega.{arith}
 use lib.Dec.{ltb, eqb}
 use lib.ListN.{length, get_or}
 use borrow.Author.Tests.{le-ltb}
+use Rattle.std.specs.Prelude.{Ok}
 use Rattle.laws.specs.Lists.{over}
 use Rattle.laws.proofs.Tests.{clash}
 use Rattle.rules.specs.Sizes.{most_radius, bad_sizes, bad_point}
@@ -21,7 +22,6 @@ use Rattle.rules.specs.declared.Grid.{Grid}
 use Rattle.rules.specs.declared.Probe.{Probe}
 use Rattle.rules.specs.declared.Refusal.{Refusal}
 use Rattle.rules.specs.declared.Refusal.TheVariants.{Sizes, Lengths, Place, Radius, Damage}
-use Rattle.rules.specs.declared.Answer.TheVariants as answer
 use Rattle.rules.proofs.Papers.{refused_number, paper_loses_nothing}
 
 -- probe i of a list
@@ -52,7 +52,7 @@ module _ (g : Grid) (t : Tables) where
 
     -- one that is refused nothing but room leaves its list over an output that has room for it
     pub alone_fits : verdict ≡ pass → (mine : List ℕ) → length (probe_writes g t p) ≤ length mine
-        → alone mine ≡ (paper_answer (answer.Done (length (radius_hits g t (point_of p) p.r))), over (probe_writes g t p) mine)
+        → alone mine ≡ (paper_answer (Ok (length (radius_hits g t (point_of p) p.r))), over (probe_writes g t p) mine)
     unfolding searches probe_writes
     alone_fits ok mine h = rw (ok, le-ltb (length mine) _ h)
 

@@ -5,6 +5,7 @@ use mathlib.Core.Bool.{true, false}
 use mathlib.Core.List.{List}
 use Prim.Native.Nat.{ℕ, ◌<◌}
 use native.Mathlib.Omega.{arith}
+use Rattle.std.specs.Prelude.{Some}
 use Rattle.laws.proofs.Numbers.{square_rises}
 use Rattle.rules.specs.Sizes.{most_tiles, bad_sizes, bad_point, column, tile_count}
 use Rattle.rules.specs.Front.{row, decoded}
@@ -14,7 +15,6 @@ use Rattle.rules.specs.declared.Point.{Point}
 use Rattle.rules.specs.declared.Direction.{Direction}
 use Rattle.rules.specs.declared.Item.{Item}
 use Rattle.rules.specs.declared.Item.TheVariants.{Group, Tile}
-use Rattle.rules.specs.declared.Read.TheVariants.{Known}
 use Rattle.rules.proofs.Good.{good_sizes}
 use Rattle.rules.proofs.Ring.{exists_lt}
 use Rattle.rules.proofs.Encoding.{InRange, decoded_encoded}
@@ -33,6 +33,6 @@ unfolding tile_count
 tile_in_range g t sized h = let s = good_sizes g sized in omega (arith, square_rises {a = g.n} {b = most_tiles} s.n_most)
 
 -- what comes to wait is read again when it is taken
-pub waiting_read : (g : Grid) (reg : List ℕ) (q : Point) (i : Item) → InRange i → decoded (waiting_row g reg q i) ≡ Known (row (square_of g reg q i) i)
+pub waiting_read : (g : Grid) (reg : List ℕ) (q : Point) (i : Item) → InRange i → decoded (waiting_row g reg q i) ≡ Some (row (square_of g reg q i) i)
 unfolding waiting_row
 waiting_read g reg q i h = decoded_encoded (row (square_of g reg q i) i) h

@@ -1,20 +1,16 @@
 -- The paper's numbers lose nothing: answers that differ, differ on paper. Assumes nothing.
 use mathlib.Core.Path.{◌≡◌, refl, sym, ap, ◌∙◌}
-use mathlib.Core.Bool.{false, cond}
+use mathlib.Core.Bool.{Bool, false, true, cond}
 use Prim.Native.Nat.{ℕ}
 use lib.Dec.{eqb}
 use lib.ListN.{length, get_or, drop}
+use Rattle.std.specs.Prelude.{Result, Ok, Err}
 use Rattle.rules.specs.Refusals.{Paper, says, paper, paper_answer, paper_listed, paper_checked, paper_ends}
+use Rattle.rules.specs.declared.Part.{Part}
 use Rattle.rules.specs.declared.Refusal.{Refusal}
 use Rattle.rules.specs.declared.Refusal.TheVariants.{Sizes, Lengths, Footprint, Place, Radius, Damage, Room, Text}
-use Rattle.rules.specs.declared.Answer.{Answer}
-use Rattle.rules.specs.declared.Answer.TheVariants as answer
-use Rattle.rules.specs.declared.Listed.{Listed}
-use Rattle.rules.specs.declared.Listed.TheVariants as listed
-use Rattle.rules.specs.declared.Checked.{Checked}
-use Rattle.rules.specs.declared.Checked.TheVariants as checked
-use Rattle.rules.specs.declared.Ends.{Ends}
-use Rattle.rules.specs.declared.Ends.TheVariants as ends
+use Rattle.rules.specs.declared.ListRefusal.{ListRefusal}
+use Rattle.rules.specs.declared.ListRefusal.TheVariants.{At, Whole}
 
 -- value k of an answer on paper
 abbrev value : Paper → ℕ → ℕ
@@ -55,73 +51,73 @@ refused_number Damage = refl
 refused_number (Room need) = refl
 refused_number (Text line) = refl
 
-answer_back : (a : Answer) → cond (eqb (paper_answer a).number 0) (answer.Done (value (paper_answer a) 0)) (answer.Refused (refusal_on (paper_answer a))) ≡ a
+answer_back : (a : Result ℕ Refusal) → cond (eqb (paper_answer a).number 0) (Ok (value (paper_answer a) 0)) (Err (refusal_on (paper_answer a))) ≡ a
 unfolding paper_answer
-answer_back (answer.Done v) = refl
-answer_back (answer.Refused r) = rw (refused_number r) (ap answer.Refused (refusal_back r))
+answer_back (Ok v) = refl
+answer_back (Err r) = rw (refused_number r) (ap Err (refusal_back r))
 
 -- a probe's index in front of a refusal is one value more than the refusal has
-abbrev listed_on : Paper → Listed
+abbrev listed_on : Paper → Result ℕ ListRefusal
 listed_on p =
-    cond (eqb p.number 0) (listed.Done (value p 0))
-    (cond (eqb (length p.values) (length (paper (refusal_on p)).values)) (listed.Refused (refusal_on p))
-    (listed.At (refusal_on (says p.number (drop 1 p.values))) (value p 0)))
+    cond (eqb p.number 0) (Ok (value p 0))
+    (cond (eqb (length p.values) (length (paper (refusal_on p)).values)) (Err (Whole (refusal_on p)))
+    (Err (At (refusal_on (says p.number (drop 1 p.values))) (value p 0))))
 
-listed_back : (a : Listed) → listed_on (paper_listed a) ≡ a
+listed_back : (a : Result ℕ ListRefusal) → listed_on (paper_listed a) ≡ a
 unfolding paper_listed paper
-listed_back (listed.Done v) = refl
-listed_back (listed.At Sizes i) = refl
-listed_back (listed.At Lengths i) = refl
-listed_back (listed.At (Footprint k) i) = refl
-listed_back (listed.At Place i) = refl
-listed_back (listed.At Radius i) = refl
-listed_back (listed.At Damage i) = refl
-listed_back (listed.At (Room need) i) = refl
-listed_back (listed.At (Text line) i) = refl
-listed_back (listed.Refused Sizes) = refl
-listed_back (listed.Refused Lengths) = refl
-listed_back (listed.Refused (Footprint k)) = refl
-listed_back (listed.Refused Place) = refl
-listed_back (listed.Refused Radius) = refl
-listed_back (listed.Refused Damage) = refl
-listed_back (listed.Refused (Room need)) = refl
-listed_back (listed.Refused (Text line)) = refl
+listed_back (Ok v) = refl
+listed_back (Err (At Sizes i)) = refl
+listed_back (Err (At Lengths i)) = refl
+listed_back (Err (At (Footprint k) i)) = refl
+listed_back (Err (At Place i)) = refl
+listed_back (Err (At Radius i)) = refl
+listed_back (Err (At Damage i)) = refl
+listed_back (Err (At (Room need) i)) = refl
+listed_back (Err (At (Text line) i)) = refl
+listed_back (Err (Whole Sizes)) = refl
+listed_back (Err (Whole Lengths)) = refl
+listed_back (Err (Whole (Footprint k))) = refl
+listed_back (Err (Whole Place)) = refl
+listed_back (Err (Whole Radius)) = refl
+listed_back (Err (Whole Damage)) = refl
+listed_back (Err (Whole (Room need))) = refl
+listed_back (Err (Whole (Text line))) = refl
 
-checked_back : (a : Checked)
-    → cond (eqb (paper_checked a).number 0) (cond (eqb (value (paper_checked a) 0) 1) checked.Yes checked.No) (checked.Refused (refusal_on (paper_checked a))) ≡ a
+checked_back : (a : Result Bool Refusal)
+    → cond (eqb (paper_checked a).number 0) (Ok (eqb (value (paper_checked a) 0) 1)) (Err (refusal_on (paper_checked a))) ≡ a
 unfolding paper_checked
-checked_back checked.Yes = refl
-checked_back checked.No = refl
-checked_back (checked.Refused r) = rw (refused_number r) (ap checked.Refused (refusal_back r))
+checked_back (Ok true) = refl
+checked_back (Ok false) = refl
+checked_back (Err r) = rw (refused_number r) (ap Err (refusal_back r))
 
-ends_back : (a : Ends)
-    → cond (eqb (paper_ends a).number 0) (ends.At (value (paper_ends a) 0) (value (paper_ends a) 1)) (ends.Refused (refusal_on (paper_ends a))) ≡ a
+ends_back : (a : Result Part Refusal)
+    → cond (eqb (paper_ends a).number 0) (Ok (record { begin = value (paper_ends a) 0; past = value (paper_ends a) 1 })) (Err (refusal_on (paper_ends a))) ≡ a
 unfolding paper_ends
-ends_back (ends.At a e) = refl
-ends_back (ends.Refused r) = rw (refused_number r) (ap ends.Refused (refusal_back r))
+ends_back (Ok p) = refl
+ends_back (Err r) = rw (refused_number r) (ap Err (refusal_back r))
 
 -- ---- so equal papers are of equal answers
 
 pub paper_loses_nothing : (a b : Refusal) → paper a ≡ paper b → a ≡ b
 paper_loses_nothing a b e = sym (refusal_back a) ∙ ap refusal_on e ∙ refusal_back b
 
-pub answers_same : (a b : Answer) → paper_answer a ≡ paper_answer b → a ≡ b
+pub answers_same : (a b : Result ℕ Refusal) → paper_answer a ≡ paper_answer b → a ≡ b
 answers_same a b e =
     sym (answer_back a)
-    ∙ ap (λ (p : Paper). cond (eqb p.number 0) (answer.Done (value p 0)) (answer.Refused (refusal_on p))) e
+    ∙ ap (λ (p : Paper). cond (eqb p.number 0) (Ok (value p 0)) (Err (refusal_on p))) e
     ∙ answer_back b
 
-pub listed_same : (a b : Listed) → paper_listed a ≡ paper_listed b → a ≡ b
+pub listed_same : (a b : Result ℕ ListRefusal) → paper_listed a ≡ paper_listed b → a ≡ b
 listed_same a b e = sym (listed_back a) ∙ ap listed_on e ∙ listed_back b
 
-pub checks_same : (a b : Checked) → paper_checked a ≡ paper_checked b → a ≡ b
+pub checks_same : (a b : Result Bool Refusal) → paper_checked a ≡ paper_checked b → a ≡ b
 checks_same a b e =
     sym (checked_back a)
-    ∙ ap (λ (p : Paper). cond (eqb p.number 0) (cond (eqb (value p 0) 1) checked.Yes checked.No) (checked.Refused (refusal_on p))) e
+    ∙ ap (λ (p : Paper). cond (eqb p.number 0) (Ok (eqb (value p 0) 1)) (Err (refusal_on p))) e
     ∙ checked_back b
 
-pub ends_same : (a b : Ends) → paper_ends a ≡ paper_ends b → a ≡ b
+pub ends_same : (a b : Result Part Refusal) → paper_ends a ≡ paper_ends b → a ≡ b
 ends_same a b e =
     sym (ends_back a)
-    ∙ ap (λ (p : Paper). cond (eqb p.number 0) (ends.At (value p 0) (value p 1)) (ends.Refused (refusal_on p))) e
+    ∙ ap (λ (p : Paper). cond (eqb p.number 0) (Ok (record { begin = value p 0; past = value p 1 })) (Err (refusal_on p))) e
     ∙ ends_back b

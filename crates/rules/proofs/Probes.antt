@@ -10,6 +10,7 @@ use native.Mathlib.Omega.{arith}
 use lib.Dec.{ltb, eqb}
 use lib.ListN.{length, get_or, take, drop, length-append, get_or-append}
 use lib.Seq.{take_at, drop_at, split_at, take-suc}
+use Rattle.std.specs.Prelude.{Result, Ok, Err}
 use Rattle.laws.specs.Lists.{each, part, over}
 use Rattle.laws.proofs.Tests.{clash}
 use Rattle.laws.proofs.Lists.{each_append}
@@ -22,9 +23,8 @@ use Rattle.rules.specs.declared.Grid.{Grid}
 use Rattle.rules.specs.declared.Probe.{Probe}
 use Rattle.rules.specs.declared.Refusal.{Refusal}
 use Rattle.rules.specs.declared.Refusal.TheVariants.{Sizes, Lengths}
-use Rattle.rules.specs.declared.Answer.TheVariants as answer
-use Rattle.rules.specs.declared.Listed.{Listed}
-use Rattle.rules.specs.declared.Listed.TheVariants as listed
+use Rattle.rules.specs.declared.ListRefusal.{ListRefusal}
+use Rattle.rules.specs.declared.ListRefusal.TheVariants.{At, Whole}
 use Rattle.rules.proofs.Papers.{refused_number, listed_same}
 use Rattle.rules.proofs.FirstRefused.{probe_at, of_probe, alone_fits, alone_refused, refused_always, room_alone, refused_of_probe, none_refused, first_is, first_found}
 
@@ -107,8 +107,8 @@ module _ (g : Grid) (t : Tables) where
 -- a call's answer by the three judges
 abbrev pub judged_as : Verdict → Option (Refusal × ℕ) → Verdict → Paper × List ℕ × List ℕ → List ℕ → List ℕ → Paper × List ℕ × List ℕ
 judged_as v w u done out ends =
-    unless v (λ why. (paper_listed (listed.At why 0), out, ends))
-    (unless_at w (λ why i. (paper_listed (listed.At why i), out, ends)) (unless u (λ why. (paper_listed (listed.Refused why), out, ends)) done))
+    unless v (λ why. (paper_listed (Err (At why 0)), out, ends))
+    (unless_at w (λ why i. (paper_listed (Err (At why i)), out, ends)) (unless u (λ why. (paper_listed (Err (Whole why)), out, ends)) done))
 
 -- an accepted one has met no refusal
 when_accepted : (v : Verdict) (w : Option (Refusal × ℕ)) (u : Verdict) (done : Paper × List ℕ × List ℕ) (out ends : List ℕ)
@@ -131,7 +131,7 @@ module _ (g : Grid) (t : Tables) (ps : List Probe) (out ends : List ℕ) (accept
   judged = when_accepted (probes_verdict g t (length ps)) (first_refused g t 0 ps) (lists_room (length (probes_write g t ps)) (length ps) out ends) _ out ends accepted
 
   pub all_written : searches_all g t ps out ends
-      ≡ (paper_listed (listed.Done (length (probes_write g t ps))), over (probes_write g t ps) out, over (list_ends g t 0 ps) ends)
+      ≡ (paper_listed (Ok (length (probes_write g t ps))), over (probes_write g t ps) out, over (list_ends g t 0 ps) ends)
   unfolding searches_all
   all_written = rw (judged.0, judged.1, judged.2)
 
@@ -157,7 +157,7 @@ module _ (g : Grid) (t : Tables) (ps : List Probe) (out ends : List ℕ) (accept
   -- the single search of each probe accepts every output with room for its list, and leaves exactly the part between the two ends over it
   pub list_is_single : (i : ℕ) → i < length ps → (mine : List ℕ) → end_of left_ends i - begin_of left_ends i ≤ length mine
       → searches g t (point_of (probe_at ps i)) (probe_at ps i).r mine
-      ≡ (paper_answer (answer.Done (length (radius_hits g t (point_of (probe_at ps i)) (probe_at ps i).r))), over (part left (begin_of left_ends i) (end_of left_ends i)) mine)
+      ≡ (paper_answer (Ok (length (radius_hits g t (point_of (probe_at ps i)) (probe_at ps i).r))), over (part left (begin_of left_ends i) (end_of left_ends i)) mine)
   list_is_single i h mine room =
       rw (list_left i h)
       (let c = list_counted i h in alone_fits g t (probe_at ps i) (none_refused g t 0 ps judged.1 i h) mine (omega (arith, c, room)))
@@ -185,15 +185,15 @@ before_probes g t m why e = go (bad_sizes g) (bad_lengths g t || ltb most_probes
     go false false u = ap (λ (v : Verdict). unless v of_probe false) (sym u)
 
 -- what an answer says of a probe
-abbrev at_of : Listed → Option (Refusal × ℕ)
-at_of (listed.Done v) = none
-at_of (listed.At why i) = some (why, i)
-at_of (listed.Refused why) = none
+abbrev at_of : Result ℕ ListRefusal → Option (Refusal × ℕ)
+at_of (Ok v) = none
+at_of (Err (At why i)) = some (why, i)
+at_of (Err (Whole why)) = none
 
-abbrev is_at : Listed → Bool
+abbrev is_at : Result ℕ ListRefusal → Bool
 is_at a = unless_at (at_of a) (λ why i. true) false
 
-abbrev why_of : Listed → Refusal
+abbrev why_of : Result ℕ ListRefusal → Refusal
 why_of a = unless_at (at_of a) (λ why i. why) Sizes
 
 -- 1 and 2 do not apply, probe i's search is refused so whatever output it is lent, and no earlier probe's search is refused but for room
@@ -223,7 +223,7 @@ module _ (g : Grid) (t : Tables) (ps : List Probe) (why : Refusal) (i : ℕ) whe
       }
 
   pub single_refuses : (out ends : List ℕ) → RefusedAlone g t ps why i
-      → (searches_all g t ps out ends ≡ (paper_listed (listed.At why i), out, ends)) × (of_probe why ≡ true)
+      → (searches_all g t ps out ends ≡ (paper_listed (Err (At why i)), out, ends)) × (of_probe why ≡ true)
   unfolding searches_all
   single_refuses out ends a =
       let good = probes_judged g t (length ps) a.judged in (
@@ -232,16 +232,16 @@ module _ (g : Grid) (t : Tables) (ps : List Probe) (why : Refusal) (i : ℕ) whe
       )
 
   -- and a call so refused is refused for such a probe
-  pub refused_as_single : (out ends : List ℕ) → (searches_all g t ps out ends).0 ≡ paper_listed (listed.At why i) → of_probe why ≡ true
+  pub refused_as_single : (out ends : List ℕ) → (searches_all g t ps out ends).0 ≡ paper_listed (Err (At why i)) → of_probe why ≡ true
       → RefusedAlone g t ps why i
   unfolding searches_all
   refused_as_single out ends e four = go (probes_verdict g t (length ps)) refl (first_refused g t 0 ps) refl (lists_room (length (probes_write g t ps)) (length ps) out ends) e
     where
       go : (v : Verdict) → probes_verdict g t (length ps) ≡ v → (w : Option (Refusal × ℕ)) → first_refused g t 0 ps ≡ w → (u : Verdict)
-          → (judged_as v w u (paper_listed (listed.Done (length (probes_write g t ps))), over (probes_write g t ps) out, over (list_ends g t 0 ps) ends) out ends).0
-          ≡ paper_listed (listed.At why i)
+          → (judged_as v w u (paper_listed (Ok (length (probes_write g t ps))), over (probes_write g t ps) out, over (list_ends g t 0 ps) ends) out ends).0
+          ≡ paper_listed (Err (At why i))
           → RefusedAlone g t ps why i
       go pass v none w pass k = clash (sym (ap is_at (listed_same _ _ k)))
       go pass v none w (refuse z) k = clash (sym (ap is_at (listed_same _ _ k)))
-      go pass v (some x) w u k = alone_found v (w ∙ ap at_of (listed_same (listed.At x.0 x.1) (listed.At why i) k))
-      go (refuse z) v w x u k = clash (sym four ∙ ap of_probe (sym (ap why_of (listed_same (listed.At z 0) (listed.At why i) k))) ∙ before_probes g t (length ps) z v)
+      go pass v (some x) w u k = alone_found v (w ∙ ap at_of (listed_same (Err (At x.0 x.1)) (Err (At why i)) k))
+      go (refuse z) v w x u k = clash (sym four ∙ ap of_probe (sym (ap why_of (listed_same (Err (At z 0)) (Err (At why i)) k))) ∙ before_probes g t (length ps) z v)

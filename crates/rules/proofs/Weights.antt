@@ -5,6 +5,7 @@ use mathlib.Core.List.{List, [], ◌∷◌, map}
 use Prim.Native.Nat.{ℕ, ◌+◌, ◌-◌, ◌*◌, ◌<◌}
 use native.Mathlib.Omega.{arith}
 use lib.Dec.{leb, eqb}
+use Rattle.std.specs.Prelude.{Option, Some, None}
 use Rattle.laws.specs.Lists.{each, total}
 use Rattle.laws.proofs.Tests.{by_bool}
 use Rattle.laws.proofs.Totals.{total_append, total_map}
@@ -14,14 +15,13 @@ use Rattle.rules.specs.Tables.{Tables, run_at, good_runs}
 use Rattle.rules.specs.Search.{allowed_runs}
 use Rattle.rules.specs.Front.{encoded, decoded}
 use Rattle.rules.specs.Walk.{group_exists, group_tiles, waiting_row, group_if, group_brings, tile_brings, bring, damage_if, row_writes, item_move, read_move, move, group_weight, weight}
+use Rattle.rules.specs.declared.Row.{Row}
 use Rattle.rules.specs.declared.Grid.{Grid}
 use Rattle.rules.specs.declared.Point.{Point}
 use Rattle.rules.specs.declared.Direction.{Direction}
 use Rattle.rules.specs.declared.Item.{Item}
 use Rattle.rules.specs.declared.Item.TheVariants.{Group, Tile, Footprint}
 use Rattle.rules.specs.declared.Three.{Three}
-use Rattle.rules.specs.declared.Read.{Read}
-use Rattle.rules.specs.declared.Read.TheVariants.{Known, Unknown}
 use Rattle.rules.proofs.Burden.{burden, group_burden, burden_weight, from_level, group_number, no_damage, hands_out, same_new, lighter}
 use Rattle.rules.proofs.InRange.{group_in_range}
 
@@ -89,9 +89,9 @@ module _ (g : Grid) (t : Tables) (q : Point) where
     unfolding move
     weight_falls a new e = omega (arith, same a new e, lighter g t q a new e, burden_weight g t a)
       where
-        go : (new : List Three) (o : Read) → read_move g t q o ≡ bring new → total (weight g t) new ≡ total (burden g t) new
-        go new Unknown e = no_damage new e
-        go new (Known r) e = brings_same r.square r.item new e
+        go : (new : List Three) (o : Option Row) → read_move g t q o ≡ bring new → total (weight g t) new ≡ total (burden g t) new
+        go new None e = no_damage new e
+        go new (Some r) e = brings_same r.square r.item new e
 
         same : (a : Three) (new : List Three) → move g t q a ≡ bring new → total (weight g t) new ≡ total (burden g t) new
         same a new e = go new (decoded a) e

@@ -1,6 +1,6 @@
 -- The promises of the build, of the check and of the run: document 01, "Sizes and tables", "Classes and tile types", "Refusal numbers".
 -- Assumes nothing.
-use Rattle.std.specs.Prelude.{Bool, ◌&&◌, ◌||◌, cond, List, [], ℕ, ◌+◌, ◌*◌, leb, length, take}
+use Rattle.std.specs.Prelude.{Bool, ◌&&◌, ◌||◌, List, [], ℕ, ◌+◌, ◌*◌, leb, length, take, Ok}
 use Rattle.laws.specs.Lists.{over, same, part}
 use Rattle.rules.specs.Sizes.{bad_sizes, tile_count}
 use Rattle.rules.specs.Register.{bad_footprints}
@@ -8,9 +8,6 @@ use Rattle.rules.specs.Tables.{tables, bad_lengths, bad_starts, bad_ends, run_no
 use Rattle.rules.specs.Refusals.{Paper, paper, paper_answer, paper_checked, paper_ends, Verdict, pass, judge, judge_footprints, judge_room, unless}
 use Rattle.rules.specs.declared.Grid.{Grid}
 use Rattle.rules.specs.declared.Refusal.TheVariants.{Sizes, Lengths, Place, Damage}
-use Rattle.rules.specs.declared.Answer.TheVariants.{Done}
-use Rattle.rules.specs.declared.Checked.TheVariants.{Yes, No}
-use Rattle.rules.specs.declared.Ends.TheVariants.{At}
 
 -- refusals 1, 2, 3: what build and check judge of the register
 unfoldable pub register_verdict : Grid → List ℕ → List ℕ → Verdict → Verdict
@@ -26,7 +23,7 @@ build_verdict g reg starts entries = register_verdict g reg starts (judge_room (
 unfoldable pub builds : Grid → List ℕ → List ℕ → List ℕ → Paper × List ℕ × List ℕ
 builds g reg starts entries =
     unless (build_verdict g reg starts entries) (λ r. (paper r, starts, entries))
-    (paper_answer (Done (length (built_entries g reg))), built_starts g reg, over (built_entries g reg) entries)
+    (paper_answer (Ok (length (built_entries g reg))), built_starts g reg, over (built_entries g reg) entries)
 
 -- ---- check: refusals 1, 2, 3; it writes nothing
 
@@ -37,7 +34,7 @@ is_built g reg starts entries =
 
 unfoldable pub checks : Grid → List ℕ → List ℕ → List ℕ → Paper
 checks g reg starts entries =
-    unless (register_verdict g reg starts pass) paper (paper_checked (cond (is_built g reg starts entries) Yes No))
+    unless (register_verdict g reg starts pass) paper (paper_checked (Ok (is_built g reg starts entries)))
 
 -- ---- a run among so many lent entries: refusals 1, 2, 4, 7
 
@@ -55,7 +52,7 @@ run_verdict g starts entries t class =
 -- where the run begins and ends
 unfoldable pub run_ends : Grid → List ℕ → ℕ → ℕ → ℕ → Paper
 run_ends g starts entries t class =
-    unless (run_verdict g starts entries t class) paper (paper_ends (At (run_start starts (run_no t class)) (run_end starts (run_no t class))))
+    unless (run_verdict g starts entries t class) paper (paper_ends (Ok (record { begin = run_start starts (run_no t class); past = run_end starts (run_no t class) })))
 
 -- where the part that is handed back begins: every refusal gives the entries' beginning
 unfoldable pub run_place : Grid → List ℕ → ℕ → ℕ → ℕ → ℕ

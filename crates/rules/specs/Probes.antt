@@ -1,6 +1,6 @@
 -- A list of searches: what all of them write, where each list ends, which probe is refused first, and the promise.
 -- Document 02, ticket 1. Every list is that of the single search, of `Search`. Assumes nothing.
-use Rattle.std.specs.Prelude.{◌||◌, List, [], ◌∷◌, ℕ, suc, ◌+◌, ltb, length}
+use Rattle.std.specs.Prelude.{◌||◌, List, [], ◌∷◌, ℕ, suc, ◌+◌, ltb, length, Ok, Err}
 use Rattle.std.proofs.Math.Option.{Option, none, some}
 use Rattle.laws.specs.Lists.{each, over}
 use Rattle.rules.specs.Sizes.{bad_sizes}
@@ -12,7 +12,7 @@ use Rattle.rules.specs.declared.Point.{Point}
 use Rattle.rules.specs.declared.Probe.{Probe}
 use Rattle.rules.specs.declared.Refusal.{Refusal}
 use Rattle.rules.specs.declared.Refusal.TheVariants.{Sizes, Lengths}
-use Rattle.rules.specs.declared.Listed.TheVariants as listed
+use Rattle.rules.specs.declared.ListRefusal.TheVariants.{At, Whole}
 
 -- a list has at most 65,536 probes
 abbrev pub most_probes : ℕ
@@ -61,7 +61,7 @@ lists_room total count out ends = judge_room total out (judge_room count ends pa
 
 unfoldable pub searches_all : Grid → Tables → List Probe → List ℕ → List ℕ → Paper × List ℕ × List ℕ
 searches_all g t ps out ends =
-    unless (probes_verdict g t (length ps)) (λ why. (paper_listed (listed.At why 0), out, ends))
-    (unless_at (first_refused g t 0 ps) (λ why i. (paper_listed (listed.At why i), out, ends))
-    (unless (lists_room (length (probes_write g t ps)) (length ps) out ends) (λ why. (paper_listed (listed.Refused why), out, ends))
-    (paper_listed (listed.Done (length (probes_write g t ps))), over (probes_write g t ps) out, over (list_ends g t 0 ps) ends)))
+    unless (probes_verdict g t (length ps)) (λ why. (paper_listed (Err (At why 0)), out, ends))
+    (unless_at (first_refused g t 0 ps) (λ why i. (paper_listed (Err (At why i)), out, ends))
+    (unless (lists_room (length (probes_write g t ps)) (length ps) out ends) (λ why. (paper_listed (Err (Whole why)), out, ends))
+    (paper_listed (Ok (length (probes_write g t ps))), over (probes_write g t ps) out, over (list_ends g t 0 ps) ends)))

@@ -1,17 +1,12 @@
 -- Refusals and answers as the paper numbers them, and how refusals are judged one after the other: document 01, "Refusal numbers".
 -- Assumes nothing.
-use Rattle.std.specs.Prelude.{Bool, true, false, List, [], ◌∷◌, ℕ, ltb, length}
+use Rattle.std.specs.Prelude.{Bool, true, false, List, [], ◌∷◌, ℕ, ltb, length, Result, Ok, Err}
 use Rattle.laws.specs.Lists.{over}
+use Rattle.rules.specs.declared.Part.{Part}
 use Rattle.rules.specs.declared.Refusal.{Refusal}
 use Rattle.rules.specs.declared.Refusal.TheVariants.{Sizes, Lengths, Footprint, Place, Radius, Damage, Room, Text}
-use Rattle.rules.specs.declared.Answer.{Answer}
-use Rattle.rules.specs.declared.Answer.TheVariants as answer
-use Rattle.rules.specs.declared.Listed.{Listed}
-use Rattle.rules.specs.declared.Listed.TheVariants as listed
-use Rattle.rules.specs.declared.Checked.{Checked}
-use Rattle.rules.specs.declared.Checked.TheVariants as checked
-use Rattle.rules.specs.declared.Ends.{Ends}
-use Rattle.rules.specs.declared.Ends.TheVariants as ends
+use Rattle.rules.specs.declared.ListRefusal.{ListRefusal}
+use Rattle.rules.specs.declared.ListRefusal.TheVariants.{At, Whole}
 
 -- an answer on paper: the refusal's number, 0 for accepted, and the values that go with it
 pub record Paper : Type 0 where
@@ -31,24 +26,24 @@ paper Damage = says 7 []
 paper (Room need) = says 6 (need ∷ [])
 paper (Text line) = says 8 (line ∷ [])
 
-unfoldable pub paper_answer : Answer → Paper
-paper_answer (answer.Done v) = says 0 (v ∷ [])
-paper_answer (answer.Refused r) = paper r
+unfoldable pub paper_answer : Result ℕ Refusal → Paper
+paper_answer (Ok v) = says 0 (v ∷ [])
+paper_answer (Err r) = paper r
 
 -- of a probe's refusal its index comes first
-unfoldable pub paper_listed : Listed → Paper
-paper_listed (listed.Done v) = says 0 (v ∷ [])
-paper_listed (listed.At why i) = says (paper why).number (i ∷ (paper why).values)
-paper_listed (listed.Refused why) = paper why
+unfoldable pub paper_listed : Result ℕ ListRefusal → Paper
+paper_listed (Ok v) = says 0 (v ∷ [])
+paper_listed (Err (At why i)) = says (paper why).number (i ∷ (paper why).values)
+paper_listed (Err (Whole why)) = paper why
 
-unfoldable pub paper_checked : Checked → Paper
-paper_checked checked.Yes = says 0 (1 ∷ [])
-paper_checked checked.No = says 0 (0 ∷ [])
-paper_checked (checked.Refused r) = paper r
+unfoldable pub paper_checked : Result Bool Refusal → Paper
+paper_checked (Ok true) = says 0 (1 ∷ [])
+paper_checked (Ok false) = says 0 (0 ∷ [])
+paper_checked (Err r) = paper r
 
-unfoldable pub paper_ends : Ends → Paper
-paper_ends (ends.At a e) = says 0 (a ∷ e ∷ [])
-paper_ends (ends.Refused r) = paper r
+unfoldable pub paper_ends : Result Part Refusal → Paper
+paper_ends (Ok p) = says 0 (p.begin ∷ p.past ∷ [])
+paper_ends (Err r) = paper r
 
 -- ---- judging
 
@@ -56,6 +51,11 @@ paper_ends (ends.Refused r) = paper r
 pub data Verdict : Type 0 where
   pass : Verdict
   refuse : Refusal → Verdict
+
+-- what a judge in the code answers
+abbrev pub as_verdict : {A : Type 0} → Result A Refusal → Verdict
+as_verdict (Ok passed) = pass
+as_verdict (Err r) = refuse r
 
 -- refused where the test passes, else as judged after it
 abbrev pub judge : Bool → Refusal → Verdict → Verdict
@@ -81,4 +81,4 @@ judge_room need out v = judge (ltb (length out) need) (Room need) v
 -- numbers written over the output where they find room; an exact fit is accepted, and the answer counts what they stand for
 abbrev pub fit : ℕ → List ℕ → List ℕ → Paper × List ℕ
 fit counted written out =
-    unless (judge_room (length written) out pass) (λ r. (paper r, out)) (paper_answer (answer.Done counted), over written out)
+    unless (judge_room (length written) out pass) (λ r. (paper r, out)) (paper_answer (Ok counted), over written out)

@@ -1,6 +1,6 @@
 -- The walk outward from a point: its groups, what a row brings, start and ask. Document 01, "The walk" and "Refusal numbers".
 -- Assumes nothing.
-use Rattle.std.specs.Prelude.{Bool, true, false, cond, ◌&&◌, ◌||◌, not, List, [], ◌∷◌, ◌++◌, map, ℕ, zero, suc, ◌+◌, ◌-◌, ◌*◌, ◌/◌, ◌%◌, leb, ltb, eqb, length, take, replicate}
+use Rattle.std.specs.Prelude.{Bool, true, false, cond, ◌&&◌, ◌||◌, not, List, [], ◌∷◌, ◌++◌, map, ℕ, zero, suc, ◌+◌, ◌-◌, ◌*◌, ◌/◌, ◌%◌, leb, ltb, eqb, length, take, replicate, Option, Ok, Some, None}
 use Rattle.laws.specs.Lists.{filter, each, total, run_for, over}
 use Rattle.rules.specs.Sizes.{most_tiles, bad_sizes, bad_point, column, row_of, column_of, tile_count, tiles, tile_of}
 use Rattle.rules.specs.Span.{at, cover, gap}
@@ -10,17 +10,15 @@ use Rattle.rules.specs.Tables.{Tables, bad_lengths, tile_runs, run_at, good_runs
 use Rattle.rules.specs.Refusals.{Paper, paper, paper_answer, Verdict, pass, judge, judge_room, unless}
 use Rattle.rules.specs.Search.{allowed_runs}
 use Rattle.rules.specs.Front.{row, rows, laid, insert_all, directions, encoded, decoded}
+use Rattle.rules.specs.declared.Row.{Row}
 use Rattle.rules.specs.declared.Grid.{Grid}
 use Rattle.rules.specs.declared.Point.{Point}
 use Rattle.rules.specs.declared.Refusal.TheVariants.{Sizes, Lengths, Place, Damage}
-use Rattle.rules.specs.declared.Answer.TheVariants.{Done}
 use Rattle.rules.specs.declared.Direction.{Direction}
 use Rattle.rules.specs.declared.Direction.TheVariants.{Up, Right, Down, Left}
 use Rattle.rules.specs.declared.Item.{Item}
 use Rattle.rules.specs.declared.Item.TheVariants.{Group, Tile, Footprint}
 use Rattle.rules.specs.declared.Three.{Three}
-use Rattle.rules.specs.declared.Read.{Read}
-use Rattle.rules.specs.declared.Read.TheVariants.{Known, Unknown}
 use Rattle.rules.specs.declared.Walk.{Walk}
 
 -- ---- groups: c and r are the column and the row of Tq, l the level
@@ -115,9 +113,9 @@ item_move g t q s (Tile tile) =
 item_move g t q s (Footprint i) = damage_if (bad_entry g t.reg i) (hand (row_writes g t.reg q i s))
 
 -- so is an unknown kind
-abbrev pub read_move : Grid → Tables → Point → Read → Move
-read_move g t q Unknown = damage
-read_move g t q (Known r) = item_move g t q r.square r.item
+abbrev pub read_move : Grid → Tables → Point → Option Row → Move
+read_move g t q None = damage
+read_move g t q (Some r) = item_move g t q r.square r.item
 
 unfoldable pub move : Grid → Tables → Point → Three → Move
 move g t q a = read_move g t q (decoded a)
@@ -207,7 +205,7 @@ start_verdict g t q front =
 unfoldable pub begun : Grid → Tables → Point → List ℕ → Paper × Walk × List ℕ
 begun g t q front =
     unless (start_verdict g t q front) (λ r. (paper r, refused_walk, front))
-    (paper_answer (Done 0), walk_at q (length (start_front g t q)) false, laid (length front) (start_front g t q))
+    (paper_answer (Ok 0), walk_at q (length (start_front g t q)) false, laid (length front) (start_front g t q))
 
 -- ---- ask: refusals 1, 2, 4, 6, 7
 
@@ -241,7 +239,7 @@ unfoldable pub ask_outcome : Walk → List ℕ → ℕ → List ℕ → Machine 
 ask_outcome w front j out m =
     cond m.damaged
     (paper Damage, walk_at (walk_point w) 0 true, replicate (length front) 0, over (replicate (row_numbers * j) 0) out)
-    (paper_answer (Done (j - m.wanted)), walk_at (walk_point w) (length m.waiting) false, laid (length front) m.waiting, over m.given out)
+    (paper_answer (Ok (j - m.wanted)), walk_at (walk_point w) (length m.waiting) false, laid (length front) m.waiting, over m.given out)
 
 -- the answer, the state, the front and the output after an ask
 unfoldable pub asks : Grid → Tables → List ℕ → Walk → ℕ → List ℕ → Paper × Walk × List ℕ × List ℕ

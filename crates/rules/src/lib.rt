@@ -1,6 +1,8 @@
 // The types and the limits that the promises speak of. The rules about them are the definitions in specs/, their laws stand in proofs/.
 #![tactic(auto)]
 
+mod rows; // rows.rt: a waiting row as three numbers, and back
+
 // n runs 1..64, side 1..16,384 cm.
 pub const MOST_TILES: u32 = 64;
 
@@ -56,8 +58,9 @@ pub struct Probe {
     pub r: u32,
 }
 
-// Why a call is refused. The definition `paper` gives the numbers 1, 2, 3, 4, 5, 7, 6 and 8, in this order.
-#[derive(Clone, Copy)]
+// Why a call is refused: the error of every answer. Else an answer holds the entries built, the hits, the pairs or the rows given; of a start, 0;
+// of a check, whether the tables are what the build leaves. The definition `paper` gives the numbers 1, 2, 3, 4, 5, 7, 6 and 8, in this order.
+#[derive(Clone, Copy, Debug, PartialEq, Eq)]
 pub enum Refusal {
     Sizes,
     Lengths,
@@ -72,37 +75,22 @@ pub enum Refusal {
     Text(u32),
 }
 
-// Done holds the entries built, the hits, the pairs or the rows given; of a start, 0.
-#[derive(Clone, Copy)]
-pub enum Answer {
-    Done(u64),
-    Refused(Refusal),
-}
-
-// What a list of searches answers. Done holds the numbers written in all, At a refusal and the index of the probe that meets it, 0 where it is
-// of the sizes or the lengths, and Refused the one for room.
-#[derive(Clone, Copy)]
-pub enum Listed {
-    Done(u64),
+// Why a list of searches is refused: At holds a refusal and the index of the probe that meets it, 0 where it is of the sizes or the lengths, and
+// Whole the one for room.
+#[derive(Clone, Copy, Debug, PartialEq, Eq)]
+pub enum ListRefusal {
     At(Refusal, u32),
-    Refused(Refusal),
+    Whole(Refusal),
 }
 
-#[derive(Clone, Copy)]
-pub enum Checked {
-    Yes,
-    No,
-    Refused(Refusal),
+// A part of the entries: those from begin up to past.
+#[derive(Clone, Copy, Debug, PartialEq, Eq)]
+pub struct Part {
+    pub begin: usize,
+    pub past: usize,
 }
 
-// Where a run begins and ends among the entries.
-#[derive(Clone, Copy)]
-pub enum Ends {
-    At(usize, usize),
-    Refused(Refusal),
-}
-
-#[derive(Clone, Copy)]
+#[derive(Clone, Copy, PartialEq, Eq)]
 pub enum Direction {
     Up,
     Right,
@@ -111,7 +99,7 @@ pub enum Direction {
 }
 
 // A group of some direction and level, a tile, or a footprint.
-#[derive(Clone, Copy)]
+#[derive(Clone, Copy, PartialEq, Eq)]
 pub enum Item {
     Group(Direction, u32),
     Tile(u32),
@@ -125,19 +113,12 @@ pub struct Row {
     pub item: Item,
 }
 
-// A waiting row as it lies in memory.
-#[derive(Clone, Copy)]
+// A waiting row as it lies in memory. Rows wait by square, then kind, then number: the order of the fields.
+#[derive(Clone, Copy, PartialEq, Eq, PartialOrd, Ord)]
 pub struct Three {
     pub square: u64,
     pub kind: u64,
     pub number: u64,
-}
-
-// What three numbers stand for, if anything.
-#[derive(Clone, Copy)]
-pub enum Read {
-    Known(Row),
-    Unknown,
 }
 
 // The state of a walk: its point, how many rows wait, and the damage mark.
@@ -152,6 +133,6 @@ pub struct Walk {
 // A start's or an ask's answer, and the state after it.
 #[derive(Clone, Copy)]
 pub struct Walked {
-    pub answer: Answer,
+    pub answer: Result<u64, Refusal>,
     pub walk: Walk,
 }

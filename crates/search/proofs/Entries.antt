@@ -6,7 +6,8 @@ use Prim.Native.Nat.{ℕ, ◌+◌, ◌≤◌, ◌<◌}
 use native.Mathlib.Nat.{add-zero}
 use native.Mathlib.Omega.{arith}
 use borrow.Author.Tests.{le-leb, lt-leb}
-use Rattle.laws.proofs.Tests.{clash, neither}
+use Rattle.std.specs.Prelude.{Some}
+use Rattle.laws.proofs.Tests.{neither}
 use Rattle.rules.specs.Distance.{within, point}
 use Rattle.rules.specs.Register.{count, rectangle, bad_span, bad_footprint, bad_entry}
 use Rattle.rules.specs.Search.{is_hit}
@@ -16,11 +17,7 @@ use Rattle.rules.specs.declared.Rect.{Rect}
 use Rattle.rules.proofs.Good.{good_sizes, on_grid, good_span}
 use Rattle.grid.specs.Tiles.{Near}
 use Rattle.grid.proofs.Bounds.{coordinates_most}
-use Rattle.search.specs.Reading.{Placed, keep_hit, kept, JudgedEntries}
-use Rattle.search.specs.declared.Tally.{Tally}
-
-abbrev pub tally : ℕ → Bool → Tally
-tally c b = record { count = c; bad = b }
+use Rattle.search.specs.Reading.{Placed, keep_hit, kept, good_entries, JudgedEntries}
 
 -- ---- near enough that squares fit
 
@@ -54,10 +51,7 @@ module _ (g : Grid) (reg : List ℕ) (i : ℕ) where
   bad_number h = rw (le-leb (count reg) i h)
 
 -- the tests of the rectangle that was read are tests of footprint i's
-module _ (g : Grid) (reg : List ℕ) (q : Point) (r i at : ℕ) (e : at ≡ i) (a : Rect) (f : a ≡ rectangle g reg at) (b : Bool) where
-  is_read : a ≡ rectangle g reg i
-  is_read = f ∙ ap (rectangle g reg) e
-
+module _ (g : Grid) (reg : List ℕ) (q : Point) (r i : ℕ) (a : Rect) (is_read : a ≡ rectangle g reg i) (b : Bool) where
   pub tested_entry : i < count reg → b ≡ bad_span g a.x || bad_span g a.y → bad_entry g reg i ≡ b
   unfolding bad_entry bad_footprint rectangle
   tested_entry h k = rw (lt-leb (count reg) i h) (sym (k ∙ ap (λ (s : Rect). bad_span g s.x || bad_span g s.y) is_read))
@@ -68,22 +62,21 @@ module _ (g : Grid) (reg : List ℕ) (q : Point) (r i at : ℕ) (e : at ≡ i) (
 
 -- ---- the three outcomes
 
-module _ (g : Grid) (reg : List ℕ) (q : Point) (r i c : ℕ) (lent₀ lent : List ℕ) where
-  pub entry_bad : bad_entry g reg i ≡ true → JudgedEntries g reg q r (i ∷ []) 1 c lent₀ (tally 0 true) lent
-  entry_bad e = record { when_bad = λ _. rw e; when_good = λ x. clash x; few = omega arith }
+module _ (g : Grid) (reg : List ℕ) (i : ℕ) where
+  pub entry_bad : bad_entry g reg i ≡ true → good_entries g reg (i ∷ []) ≡ false
+  entry_bad e = rw e
 
-  pub entry_far : bad_entry g reg i ≡ false → is_hit g reg q r i ≡ false → lent ≡ lent₀ → JudgedEntries g reg q r (i ∷ []) 1 c lent₀ (tally c false) lent
+module _ (g : Grid) (reg : List ℕ) (q : Point) (r i c : ℕ) (lent₀ lent : List ℕ) where
+  pub entry_far : bad_entry g reg i ≡ false → is_hit g reg q r i ≡ false → lent ≡ lent₀ → JudgedEntries g reg q r (i ∷ []) 1 c lent₀ (Some c) lent
   entry_far e f same = record {
-    when_bad = λ x. clash (sym x);
-    when_good = λ _. record { still = rw e; counts = rw f; keeps = rw (f, same) };
+    left = record { still = rw e; counts = rw f; keeps = rw (f, same) };
     few = omega arith;
   }
 
   pub entry_hit : bad_entry g reg i ≡ false → is_hit g reg q r i ≡ true → lent ≡ keep_hit g reg q c i lent₀
-      → JudgedEntries g reg q r (i ∷ []) 1 c lent₀ (tally (c + 1) false) lent
+      → JudgedEntries g reg q r (i ∷ []) 1 c lent₀ (Some (c + 1)) lent
   unfolding kept
   entry_hit e f same = record {
-    when_bad = λ x. clash (sym x);
-    when_good = λ _. record { still = rw e; counts = rw f (add-zero (c + 1)); keeps = rw (f, same) };
+    left = record { still = rw e; counts = rw f (add-zero (c + 1)); keeps = rw (f, same) };
     few = omega arith;
   }

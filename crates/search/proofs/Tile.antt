@@ -7,23 +7,23 @@ use native.Mathlib.Omega.{arith}
 use lib.Dec.{ltb}
 use lib.ListN.{length}
 use borrow.Author.Tests.{ltb-false}
+use Rattle.std.specs.Prelude.{Some}
 use Rattle.laws.specs.Lists.{each, part}
 use Rattle.laws.proofs.Lists.{filter_append, each_append}
 use Rattle.laws.proofs.Parts.{all_append, part_joined}
-use Rattle.laws.proofs.Tests.{clash, neither}
+use Rattle.laws.proofs.Tests.{neither}
 use Rattle.rules.specs.Sizes.{most_entries}
 use Rattle.rules.specs.Register.{bad_entry}
 use Rattle.rules.specs.Tables.{Tables, run_start, run_end, run_at, bad_ends, good_run, good_runs}
 use Rattle.rules.specs.Search.{is_hit}
 use Rattle.rules.specs.declared.Grid.{Grid}
 use Rattle.rules.specs.declared.Point.{Point}
-use Rattle.search.specs.Reading.{good_entries, hits_in, hits_of, held_in, Lies, Holds, JudgedEntries}
-use Rattle.search.specs.declared.Tally.{Tally}
-use Rattle.search.specs.declared.Held.{Held}
+use Rattle.search.specs.Reading.{good_entries, hits_in, hits_of, entries_in, good_behind, Lies, Holds, JudgedEntries}
+use Rattle.search.specs.declared.runs.Held.{Held}
 use Rattle.search.proofs.Left.{left_all, left_same, left_as, left_on}
 
-abbrev pub held : ℕ → ℕ → ℕ → Bool → Held
-held b p c d = record { begin = b; past = p; count = c; bad = d }
+abbrev pub held : ℕ → ℕ → ℕ → Held
+held b p c = record { part = record { begin = b; past = p }; count = c }
 
 -- ---- runs one behind the other
 
@@ -54,30 +54,24 @@ module _ (g : Grid) (t : Tables) (q : Point) (r : ℕ) where
         let v = neither (ltb e a) (ltb (length t.entries) e) u.0 in
         (ltb-false _ _ v.0, ltb-false _ _ v.1, ltb-false _ _ u.1)
 
-    module _ (h : Held) (lent₀ lent : List ℕ) where
+    module _ (h : Held) where
       abbrev before : List ℕ
-      before = held_in t.entries h
+      before = entries_in t.entries h.part
 
       -- its ends are damaged
-      pub hold_damaged : bad_ends (length t.entries) a e ≡ true → Holds g t q r (k ∷ []) h lent₀ (held 0 0 0 true) lent
-      hold_damaged b = record {
-        when_bad = λ _. rw (run_damaged b) (and-false (good_entries g t.reg before));
-        when_good = λ f. clash f;
-        lies = record { ordered = omega arith; inside = omega arith };
-        few = omega arith;
-      }
+      pub hold_damaged : bad_ends (length t.entries) a e ≡ true → good_behind g t (k ∷ []) h ≡ false
+      hold_damaged b = rw (run_damaged b) (and-false (good_entries g t.reg before))
 
       -- it begins where the part ends, and joins it
-      pub hold_joined : bad_ends (length t.entries) a e ≡ false → Lies t.entries h → a ≡ h.past
-          → Holds g t q r (k ∷ []) h lent (held h.begin e h.count false) lent
-      hold_joined b w s =
+      pub hold_joined : (lent : List ℕ) → bad_ends (length t.entries) a e ≡ false → Lies t.entries h.part → a ≡ h.part.past
+          → Holds g t q r (k ∷ []) h lent (Some (held h.part.begin e h.count)) lent
+      hold_joined lent b w s =
           let z = good_ends b in
           let o = w.ordered in
-          let j : before ++ part t.entries a e ≡ part t.entries h.begin e =
-          ap (λ (n : ℕ). before ++ part t.entries n e) s ∙ part_joined t.entries h.begin h.past e o (omega arith) in
+          let j : before ++ part t.entries a e ≡ part t.entries h.part.begin e =
+          ap (λ (n : ℕ). before ++ part t.entries n e) s ∙ part_joined t.entries h.part.begin h.part.past e o (omega arith) in
           record {
-            when_bad = λ f. clash (sym f);
-            when_good = λ _. left_same h.count lent
+            left = left_same h.count lent
                 (ap (λ (x : Bool). good_entries g t.reg before && x) (run_good b) ∙ sym (all_append (λ i. not (bad_entry g t.reg i)) before (part t.entries a e)) ∙ ap (good_entries g t.reg) j)
                 (ap (λ (l : List ℕ). hits_in g t.reg q r before ++ hits_in g t.reg q r l) run_is ∙ sym (filter_append (is_hit g t.reg q r) before (part t.entries a e)) ∙ ap (hits_in g t.reg q r) j);
             lies = record { ordered = omega arith; inside = z.1 };
@@ -85,15 +79,13 @@ module _ (g : Grid) (t : Tables) (q : Point) (r : ℕ) where
           }
 
       -- the part is read, and the run is held back in its place
-      pub hold_next : bad_ends (length t.entries) a e ≡ false → (y : Tally)
-          → JudgedEntries g t.reg q r before (h.past - h.begin) h.count lent₀ y lent
-          → Holds g t q r (k ∷ []) h lent₀ (held a e y.count y.bad) lent
-      hold_next b y j =
+      pub hold_next : (lent₀ lent : List ℕ) → bad_ends (length t.entries) a e ≡ false → (c : ℕ)
+          → JudgedEntries g t.reg q r before (h.part.past - h.part.begin) h.count lent₀ (Some c) lent
+          → Holds g t q r (k ∷ []) h lent₀ (Some (held a e c)) lent
+      hold_next lent₀ lent b c j =
           let z = good_ends b in
           record {
-            when_bad = λ f. ap (λ (x : Bool). x && good_runs g t (k ∷ [])) (j.when_bad f);
-            when_good = λ f.
-                left_as (left_on (good_runs g t (k ∷ [])) (hits_of g t q r (k ∷ [])) (left_all _ _ h.count lent₀) refl refl (j.when_good f))
+            left = left_as (left_on (good_runs g t (k ∷ [])) (hits_of g t q r (k ∷ [])) (left_all _ _ h.count lent₀) refl refl j.left)
                 (run_good b) (ap (hits_in g t.reg q r) run_is);
             lies = record { ordered = z.0; inside = z.1 };
             few = omega (arith, j.few);

@@ -4,9 +4,9 @@ use mathlib.Core.Bool.{Bool, true, false}
 use mathlib.Core.List.{List, [], ◌∷◌, ◌++◌, append-nil}
 use Prim.Native.Nat.{ℕ, zero, suc, ◌+◌, ◌-◌, ◌*◌, ◌/◌, ◌%◌, ◌<◌}
 use native.Mathlib.Omega.{arith}
+use Rattle.std.specs.Prelude.{Option, Some}
 use Rattle.laws.specs.Lists.{filter, from, each}
 use Rattle.laws.proofs.Lists.{filter_append, each_append}
-use Rattle.laws.proofs.Tests.{clash}
 use Rattle.rules.specs.Sizes.{column, tile_no}
 use Rattle.rules.specs.Span.{cover, place}
 use Rattle.rules.specs.Distance.{within, point}
@@ -23,9 +23,7 @@ use Rattle.rules.proofs.Report.{column_again, row_again}
 use Rattle.rules.proofs.Box.{first_last, last_inside, visits_at, visited_box}
 use Rattle.grid.specs.Places.{is_on}
 use Rattle.search.specs.Reading.{tile_most, Placed, Allows, runs_in, JudgedRuns}
-use Rattle.search.specs.declared.Tally.{Tally}
 use Rattle.search.proofs.Left.{left_all}
-use Rattle.search.proofs.Entries.{tally}
 use Rattle.search.proofs.Pieces.{PiecesLeft, pieces_all}
 
 -- ---- one tile
@@ -42,13 +40,13 @@ module _ (g : Grid) (q : Point) (r : ℕ) (ok : Placed g q) (row col : ℕ) (ins
   module _ (t : Tables) (x y : Span) (e : x ≡ cover g.side col) (f : y ≡ cover g.side row)
       (p : Rect) (k : p ≡ point q) (b : Bool) (h : b ≡ within r p (record { x = x; y = y })) where
     -- a tile that is too far is not read
-    pub tile_far : b ≡ false → (c : ℕ) (lent : List ℕ) → JudgedRuns g t q r (runs_in g q r (tile_no g row col ∷ [])) tile_most c lent (tally c false) lent
+    pub tile_far : b ≡ false → (c : ℕ) (lent : List ℕ) → JudgedRuns g t q r (runs_in g q r (tile_no g row col ∷ [])) tile_most c lent (Some c) lent
     unfolding runs_in good_runs
     tile_far d c lent =
-        rw (is_visited x y e f p k b h ∙ d) (record { when_bad = λ z. clash (sym z); when_good = λ _. left_all _ _ c lent; few = omega arith })
+        rw (is_visited x y e f p k b h ∙ d) (record { left = left_all _ _ c lent; few = omega arith })
 
     -- of one that is near the allowed classes are
-    pub tile_near : b ≡ true → (c : ℕ) (lent₀ : List ℕ) (z : Tally) (lent : List ℕ) (tile : ℕ) → tile ≡ tile_no g row col
+    pub tile_near : b ≡ true → (c : ℕ) (lent₀ : List ℕ) (z : Option ℕ) (lent : List ℕ) (tile : ℕ) → tile ≡ tile_no g row col
         → JudgedRuns g t q r (allowed_runs g q tile) tile_most c lent₀ z lent
         → JudgedRuns g t q r (runs_in g q r (tile_no g row col ∷ [])) tile_most c lent₀ z lent
     unfolding runs_in

@@ -1,48 +1,61 @@
--- A search judged: each refusal in its order, what an accepted search has counted and kept, and what its promise says then. Assumes nothing.
-use mathlib.Core.Path.{◌≡◌, refl, sym, ap, ◌∙◌}
-use mathlib.Core.Bool.{Bool, true, false, not}
-use mathlib.Core.List.{List, []}
+-- A search judged: each refusal in its order, and what its promise says of one that is accepted. Assumes nothing.
+use mathlib.Core.Path.{◌≡◌, sym, ap, ◌∙◌}
+use mathlib.Core.Bool.{true, false, not}
+use mathlib.Core.List.{List}
 use Prim.Native.Nat.{ℕ, ◌≤◌, ◌<◌}
-use native.Mathlib.Nat.{not-suc-le-zero}
 use native.Mathlib.Omega.{arith}
 use lib.Dec.{ltb}
 use lib.ListN.{length, take, drop}
 use lib.Seq.{take_at}
 use borrow.Author.Tests.{lt-ltb, le-ltb, ltb-false, not-false}
+use Rattle.std.specs.Prelude.{Option, Some, None, Ok, Err}
 use Rattle.laws.specs.Lists.{each, over}
-use Rattle.laws.proofs.Tests.{by_bool, clash, neither}
+use Rattle.laws.proofs.Tests.{clash}
 use Rattle.rules.specs.Sizes.{most_radius, bad_sizes, bad_point}
-use Rattle.rules.specs.Register.{bad_register}
-use Rattle.rules.specs.Tables.{Tables, tables, bad_starts, bad_lengths, good_runs}
-use Rattle.rules.specs.Refusals.{Paper, paper, paper_answer, Verdict, pass, refuse, unless}
+use Rattle.rules.specs.Tables.{Tables, bad_lengths, good_runs}
+use Rattle.rules.specs.Refusals.{paper_answer, pass, refuse}
 use Rattle.rules.specs.Search.{read_runs, radius_hits, hit_writes, search_verdict, searches}
 use Rattle.rules.specs.declared.Grid.{Grid}
 use Rattle.rules.specs.declared.Point.{Point}
-use Rattle.rules.specs.declared.Answer.{Answer}
-use Rattle.rules.specs.declared.Answer.TheVariants.{Done, Refused}
 use Rattle.rules.specs.declared.Refusal.{Refusal}
 use Rattle.rules.specs.declared.Refusal.TheVariants.{Sizes, Lengths, Place, Radius, Damage, Room}
-use Rattle.tables.proofs.Verdicts.{pass_not_refuse, judge_pass}
-use Rattle.search.specs.Reading.{box_most, Ready, kept, JudgedRuns}
-use Rattle.search.specs.Judged.{judged, Counted, Writable}
-use Rattle.search.specs.declared.Tally.{Tally}
+use Rattle.tables.proofs.Verdicts.{judge_pass}
+use Rattle.search.specs.Reading.{box_most, Placed, keep_hit, kept, JudgedRuns}
 use Rattle.search.proofs.Left.{writes_are, kept_fits}
 
+-- nothing is refused of what a search asks, but for the entries that it reads
+pub record Ready (g : Grid) (t : Tables) (q : Point) (r : ℕ) : Type 0 where
+  pub placed : Placed g q
+  pub lengths : bad_lengths g t ≡ false
+  pub radius : r ≤ most_radius
+
 module _ (g : Grid) (t : Tables) (q : Point) (r : ℕ) where
-  -- the lengths are judged without the entries
-  pub lengths_are : (b : Bool) → b ≡ bad_lengths g (tables t.reg t.starts []) → bad_lengths g t ≡ b
-  unfolding bad_lengths
-  lengths_are b e = sym e
+  -- ---- refused, in this order
 
-  pub ready : bad_sizes g ≡ false → bad_lengths g t ≡ false → bad_point g q ≡ false → r ≤ most_radius → Ready g t.starts q r
-  unfolding bad_lengths
-  ready a b c d = record {
-    placed = record { sizes = a; point = c };
-    lengths = (neither (bad_register t.reg) (bad_starts g t.starts) b).1;
-    radius = d;
-  }
+  pub refused_sizes : bad_sizes g ≡ true → search_verdict g t q r ≡ refuse Sizes
+  unfolding search_verdict
+  refused_sizes a = rw a
 
-  pub passed : search_verdict g t q r ≡ pass → Ready g t.starts q r × (good_runs g t (read_runs g q r) ≡ true)
+  pub refused_lengths : bad_sizes g ≡ false → bad_lengths g t ≡ true → search_verdict g t q r ≡ refuse Lengths
+  unfolding search_verdict
+  refused_lengths a b = rw (a, b)
+
+  pub refused_place : bad_sizes g ≡ false → bad_lengths g t ≡ false → bad_point g q ≡ true → search_verdict g t q r ≡ refuse Place
+  unfolding search_verdict
+  refused_place a b c = rw (a, b, c)
+
+  pub refused_radius : bad_sizes g ≡ false → bad_lengths g t ≡ false → bad_point g q ≡ false → most_radius < r
+      → search_verdict g t q r ≡ refuse Radius
+  unfolding search_verdict
+  refused_radius a b c d = rw (a, b, c, lt-ltb most_radius r d)
+
+  pub promise_refused : (v : Refusal) → search_verdict g t q r ≡ refuse v → (out : List ℕ) → (paper_answer (Err v), out) ≡ searches g t q r out
+  unfolding searches paper_answer
+  promise_refused v e out = rw e
+
+  -- ---- accepted
+
+  pub passed : search_verdict g t q r ≡ pass → Ready g t q r × (good_runs g t (read_runs g q r) ≡ true)
   unfolding search_verdict
   passed e =
       let a = judge_pass (bad_sizes g) Sizes _ e in
@@ -50,105 +63,51 @@ module _ (g : Grid) (t : Tables) (q : Point) (r : ℕ) where
       let c = judge_pass (bad_point g q) Place _ b.1 in
       let d = judge_pass (ltb most_radius r) Radius _ c.1 in
       let f = judge_pass (not (good_runs g t (read_runs g q r))) Damage pass d.1 in
-      (ready a.0 b.0 c.0 (ltb-false _ _ d.0), not-false _ f.0)
+      (record { placed = record { sizes = a.0; point = c.0 }; lengths = b.0; radius = ltb-false _ _ d.0 }, not-false _ f.0)
 
--- ---- refused, in this order
-
-module _ {g : Grid} {t : Tables} {q : Point} {r : ℕ} {lent₀ lent : List ℕ} where
-  refused : (v : Refusal) → search_verdict g t q r ≡ refuse v → Counted g t q r lent₀ (Refused v) lent
-  unfolding judged
-  refused v e = record { answer = rw e; first = λ f. absurd (pass_not_refuse v (sym e ∙ f)) }
-
-  pub refused_sizes : bad_sizes g ≡ true → Counted g t q r lent₀ (Refused Sizes) lent
-  unfolding search_verdict
-  refused_sizes a = refused Sizes (rw a)
-
-  module _ (a : bad_sizes g ≡ false) where
-    pub refused_lengths : bad_lengths g t ≡ true → Counted g t q r lent₀ (Refused Lengths) lent
+  module _ (ok : Ready g t q r) where
+    pub refused_damage : good_runs g t (read_runs g q r) ≡ false → search_verdict g t q r ≡ refuse Damage
     unfolding search_verdict
-    refused_lengths b = refused Lengths (rw (a, b))
+    refused_damage e = rw (ok.placed.sizes, ok.lengths, ok.placed.point, le-ltb most_radius r ok.radius, e)
 
-    module _ (b : bad_lengths g t ≡ false) where
-      pub refused_place : bad_point g q ≡ true → Counted g t q r lent₀ (Refused Place) lent
-      unfolding search_verdict
-      refused_place c = refused Place (rw (a, b, c))
+    pub good_passes : good_runs g t (read_runs g q r) ≡ true → search_verdict g t q r ≡ pass
+    unfolding search_verdict
+    good_passes e = rw (ok.placed.sizes, ok.lengths, ok.placed.point, le-ltb most_radius r ok.radius, e)
 
-      module _ (c : bad_point g q ≡ false) where
-        pub refused_radius : most_radius < r → Counted g t q r lent₀ (Refused Radius) lent
-        unfolding search_verdict
-        refused_radius d = refused Radius (rw (a, b, c, lt-ltb most_radius r d))
+    -- the hits are counted: what the promise says where they find no room, and where they do
+    module _ {lent₀ lent : List ℕ} {n : ℕ} (j : JudgedRuns g t q r (read_runs g q r) box_most 0 lent₀ (Some n) lent) where
+      counted : n ≡ length (radius_hits g t q r)
+      unfolding radius_hits
+      counted = let e = j.left.counts in omega arith
 
-        module _ (d : r ≤ most_radius) {y : Tally} (j : JudgedRuns g t q r (read_runs g q r) box_most 0 lent₀ y lent) where
-          pub refused_damage : y.bad ≡ true → Counted g t q r lent₀ (Refused Damage) lent
-          unfolding search_verdict
-          refused_damage e = refused Damage (rw (a, b, c, le-ltb most_radius r d, j.when_bad e))
+      written : length (each (hit_writes g t.reg q) (radius_hits g t q r)) ≡ n
+      written = ap length (writes_are g t.reg q (radius_hits g t q r)) ∙ sym counted
 
-          -- ---- accepted
+      pub promise_room : (out : List ℕ) → length out < n → (paper_answer (Err (Room n)), out) ≡ searches g t q r out
+      unfolding searches paper_answer
+      promise_room out h = rw (good_passes j.left.still, written, lt-ltb (length out) n h)
 
-          pub accepted : y.bad ≡ false → Counted g t q r lent₀ (Done y.count) lent
-          unfolding search_verdict judged radius_hits kept
-          accepted e =
-              let p = j.when_good e in
-              let n : y.count ≡ length (radius_hits g t q r) = omega (arith, p.counts) in
-              let v : search_verdict g t q r ≡ pass = rw (a, b, c, le-ltb most_radius r d, p.still) in
-              record { answer = rw v (ap Done n); first = λ _. p.keeps }
+      pub promise_done : (out : List ℕ) → n ≤ length out → (out' : List ℕ)
+          → out' ≡ over (each (hit_writes g t.reg q) (radius_hits g t q r)) out → (paper_answer (Ok n), out') ≡ searches g t q r out
+      unfolding searches paper_answer
+      promise_done out h out' f = rw (good_passes j.left.still, f, ← counted, written, le-ltb (length out) n h)
 
-module _ (g : Grid) (t : Tables) (q : Point) (r : ℕ) where
-  -- ---- read again where all hits find room
+      keeps : lent ≡ kept (keep_hit g t.reg q) 0 (radius_hits g t q r) lent₀
+      unfolding radius_hits kept
+      keeps = j.left.keeps
 
-  pub read_again : search_verdict g t q r ≡ pass → (y : Tally) (out₀ out : List ℕ) → length (radius_hits g t q r) ≤ length out₀
-      → JudgedRuns g t q r (read_runs g q r) box_most 0 out₀ y out → out ≡ over (each (hit_writes g t.reg q) (radius_hits g t q r)) out₀
-  unfolding radius_hits kept
-  read_again v y out₀ out room j =
-      by_bool y.bad
-      (λ e. clash (sym (passed g t q r v).1 ∙ j.when_bad e))
-      (λ e. (j.when_good e).keeps ∙ kept_fits g t.reg q (radius_hits g t q r) out₀ room)
+      -- where all were kept, the hits are the first of what was lent
+      pub kept_first : n ≤ length lent → length lent ≡ length lent₀ → take n lent ≡ each (hit_writes g t.reg q) (radius_hits g t q r)
+      kept_first h s =
+          let hits = radius_hits g t q r in
+          let m = counted in
+          let w = each (hit_writes g t.reg q) hits in
+          ap (take n) (keeps ∙ kept_fits g t.reg q hits lent₀ (omega arith)) ∙ take_at w (drop (length w) lent₀) n written
 
-  -- ---- the promise
-
-  pub promise_refused : (out : List ℕ) (v : Refusal) → Refused v ≡ judged g t q r → (paper_answer (Refused v), out) ≡ searches g t q r out
-  unfolding judged searches paper_answer
-  promise_refused out v e = go (search_verdict g t q r) (length (radius_hits g t q r)) _ e
-    where
-      go : (w : Verdict) (m : ℕ) (X : Paper × List ℕ) → Refused v ≡ unless w Refused (Done m) → (paper v, out) ≡ unless w (λ u. (paper u, out)) X
-      go pass m X e = let z : ◌≡◌ {A = ℕ} 0 1 = cc in absurd (not-suc-le-zero {n = 0} (omega arith))
-      go (refuse u) m X e = let z : v ≡ u = cc in ap (λ (x : Refusal). (paper x, out)) z
-
-  pub done_passed : (n : ℕ) → Done n ≡ judged g t q r → (search_verdict g t q r ≡ pass) × (n ≡ length (radius_hits g t q r))
-  unfolding judged
-  done_passed n e = go (search_verdict g t q r) (length (radius_hits g t q r)) e
-    where
-      go : (w : Verdict) (m : ℕ) → Done n ≡ unless w Refused (Done m) → (w ≡ pass) × (n ≡ m)
-      go pass m e = (refl, cc)
-      go (refuse u) m e = let z : ◌≡◌ {A = ℕ} 0 1 = cc in absurd (not-suc-le-zero {n = 0} (omega arith))
-
-  pub promise_room : (out : List ℕ) (n : ℕ) → Done n ≡ judged g t q r → length out < n → (paper_answer (Refused (Room n)), out) ≡ searches g t q r out
-  unfolding searches paper_answer
-  promise_room out n e h =
-      let d = done_passed n e in
-      let w : length (each (hit_writes g t.reg q) (radius_hits g t q r)) ≡ n = ap length (writes_are g t.reg q (radius_hits g t q r)) ∙ sym d.1 in
-      rw (d.0, w, lt-ltb (length out) n h)
-
-  pub promise_done : (out : List ℕ) (n : ℕ) → Done n ≡ judged g t q r → n ≤ length out → (out' : List ℕ)
-      → out' ≡ over (each (hit_writes g t.reg q) (radius_hits g t q r)) out → (paper_answer (Done n), out') ≡ searches g t q r out
-  unfolding searches paper_answer
-  promise_done out n e h out' f =
-      let d = done_passed n e in
-      let w : length (each (hit_writes g t.reg q) (radius_hits g t q r)) ≡ n = ap length (writes_are g t.reg q (radius_hits g t q r)) ∙ sym d.1 in
-      rw (d.0, f, ← d.1, w, le-ltb (length out) n h)
-
-  -- what judging leaves is what writing asks
-  pub writable : (a : Answer) (n : ℕ) → a ≡ Done n → (first₀ first out : List ℕ) → Counted g t q r first₀ a first → length first ≡ length first₀
-      → n ≤ length out → Writable g t q r n first out
-  writable a n e first₀ first out c s h =
-      let d = done_passed n (sym e ∙ c.answer) in
-      let m = d.1 in
-      let hits = radius_hits g t q r in
-      let w = each (hit_writes g t.reg q) hits in
-      let l : length w ≡ n = ap length (writes_are g t.reg q hits) ∙ sym m in
-      record {
-        verdict = d.0;
-        counted = m;
-        room = h;
-        kept = λ k. ap (take n) (c.first d.0 ∙ kept_fits g t.reg q hits first₀ (omega arith)) ∙ take_at w (drop (length w) first₀) n l;
-      }
+      -- where they were not, they are read again, and all find room
+      pub read_again : (y : Option ℕ) (out₀ out : List ℕ) → n ≤ length out₀ → JudgedRuns g t q r (read_runs g q r) box_most 0 out₀ y out
+          → out ≡ over (each (hit_writes g t.reg q) (radius_hits g t q r)) out₀
+      unfolding radius_hits kept
+      read_again None out₀ out h k = clash (sym j.left.still ∙ k)
+      read_again (Some m) out₀ out h k =
+          let e = counted in k.left.keeps ∙ kept_fits g t.reg q (radius_hits g t q r) out₀ (omega arith)

@@ -1,76 +1,39 @@
 // The square's box judged: its rows, and the tiles of each.
 
 ghost use Rattle.std.specs.Prelude.{◌<◌, ◌^◌};
-ghost use Rattle.rules.specs.Tables.{tables};
 ghost use Rattle.rules.specs.Search.{read_runs};
 ghost use Rattle.rules.specs.Box.{box_row};
-ghost use Rattle.search.specs.Reading.{box_most, row_most, Ready, runs_in, JudgedRuns};
+ghost use Rattle.search.specs.Reading.{box_most, row_most, runs_in, JudgedRuns};
 
-use crate::{Tally, runs};
-use rules::{Grid, Point};
+use crate::asked::Asked;
+use numbers::Form;
 
-// The tiles of a row of the square's box.
-fn judge_row(
-    g: Grid,
-    reg: &[u32],
-    starts: &[u32],
-    entries: &[u32],
-    q: Point,
-    r: u32,
-    row: u32,
-    count: usize,
-    lent: &mut [u32],
-) -> Tally
-    requires ready { Ready g starts.now q r }
-    requires row_lt_n { row < g.n }
-    requires count_bound { count < 2 ^ 61 }
-    ensures { JudgedRuns g (tables reg.now starts.now entries.now) q r (runs_in g q r (box_row g q r row)) row_most count lent.old result lent.new }
-{
-    let first = grid::near::first_column(g, r, q.x);
-    let last = grid::near::last_column(g, r, q.x);
-    let mut found = count;
-    let mut col = first;
-    while col <= last {
-        let t = runs::judge_at(g, reg, starts, entries, q, r, row, col, found, lent);
-        if t.bad {
-            return t;
+impl<F: Form> Asked<'_, F> {
+    // The tiles of a row of the square's box.
+    fn judge_row<L: Form>(&self, row: u32, count: usize, lent: &mut [L]) -> Option<usize>
+        requires on_grid { row < self.now.g.n }
+        requires countable { count < 2 ^ 61 }
+        ensures { JudgedRuns self.now.g self.now.t self.now.q self.now.r (runs_in self.now.g self.now.q self.now.r (box_row self.now.g self.now.q self.now.r row)) row_most count (L.numbers lent.old) result (L.numbers lent.new) }
+    {
+        let first = grid::near::first_column(self.g, self.r, self.q.x);
+        let last = grid::near::last_column(self.g, self.r, self.q.x);
+        let mut found = count;
+        for col in first..=last {
+            found = self.judge_at(row, col, found, lent)?;
         }
-        found = t.count;
-        col += 1;
+        Some(found)
     }
-    Tally {
-        count: found,
-        bad: false,
-    }
-}
 
-// All that a search visits: the rows of the square's box.
-pub(crate) fn judge_box(
-    g: Grid,
-    reg: &[u32],
-    starts: &[u32],
-    entries: &[u32],
-    q: Point,
-    r: u32,
-    lent: &mut [u32],
-) -> Tally
-    requires { Ready g starts.now q r }
-    ensures { JudgedRuns g (tables reg.now starts.now entries.now) q r (read_runs g q r) box_most 0 lent.old result lent.new }
-{
-    let first = grid::near::first_column(g, r, q.y);
-    let last = grid::near::last_column(g, r, q.y);
-    let mut found = 0;
-    let mut row = first;
-    while row <= last {
-        let t = judge_row(g, reg, starts, entries, q, r, row, found, lent);
-        if t.bad {
-            return t;
+    // All that a search visits: the rows of the square's box.
+    pub(crate) fn judge_box<L: Form>(&self, lent: &mut [L]) -> Option<usize>
+        ensures { JudgedRuns self.now.g self.now.t self.now.q self.now.r (read_runs self.now.g self.now.q self.now.r) box_most 0 (L.numbers lent.old) result (L.numbers lent.new) }
+    {
+        let first = grid::near::first_column(self.g, self.r, self.q.y);
+        let last = grid::near::last_column(self.g, self.r, self.q.y);
+        let mut found = 0;
+        for row in first..=last {
+            found = self.judge_row(row, found, lent)?;
         }
-        found = t.count;
-        row += 1;
-    }
-    Tally {
-        count: found,
-        bad: false,
+        Some(found)
     }
 }

@@ -1,107 +1,39 @@
-// A search with an array of any length to keep the first hits in: judged and counted, then written.
+// A search with an array to keep the first hits in: judged and counted, then written.
 
-ghost use Rattle.std.specs.Prelude.{◌≡◌, ◌≤◌, length, take};
-ghost use Rattle.laws.specs.Lists.{each, over};
-ghost use Rattle.rules.specs.Tables.{tables};
+ghost use Rattle.std.specs.Prelude.{◌≡◌, ◌≤◌, length};
+ghost use Rattle.laws.specs.Lists.{over};
 ghost use Rattle.rules.specs.Refusals.{paper_answer};
-ghost use Rattle.rules.specs.Search.{radius_hits, hit_writes, searches};
-ghost use Rattle.search.specs.Judged.{at, Counted, Writable};
+ghost use Rattle.rules.specs.Search.{searches};
 
-use crate::boxes;
-use rules::{Answer, Grid, Point, Refusal};
-use tables::register;
+use crate::asked::Asked;
+use numbers::Form;
+use rules::Refusal;
 
-// Judges a search, all but the room: the hits, which are counted, or the refusal. The first hits are kept in what is lent, while they fit;
-// of a refused search it may keep some too.
-fn judge(
-    g: Grid,
-    reg: &[u32],
-    starts: &[u32],
-    entries: &[u32],
-    x: u32,
-    y: u32,
-    r: u32,
-    lent: &mut [u32],
-) -> Answer
-    ensures { Counted g (tables reg.now starts.now entries.now) (at x y) r lent.old result lent.new }
+// A list's numbers, written over the beginning of a table.
+fn copy<F: Form>(list: &[u32], out: &mut [F])
+    requires { length list.now ≤ length (F.numbers out.old) }
+    ensures { F.numbers out.new ≡ over list.now (F.numbers out.old) }
 {
-    if grid::bad_sizes(g) {
-        return Answer::Refused(Refusal::Sizes);
-    }
-    if register::bad_lengths(g, reg, starts) {
-        return Answer::Refused(Refusal::Lengths);
-    }
-    let q = Point { x: x, y: y };
-    if grid::bad_point(g, q) {
-        return Answer::Refused(Refusal::Place);
-    }
-    if rules::MOST_RADIUS < r {
-        return Answer::Refused(Refusal::Radius);
-    }
-    let t = boxes::judge_box(g, reg, starts, entries, q, r, lent);
-    if t.bad {
-        return Answer::Refused(Refusal::Damage);
-    }
-    Answer::Done(t.count as u64)
-}
-
-// The first numbers of a list, written over the beginning of another.
-fn copy(list: &[u32], count: usize, out: &mut [u32])
-    requires { (count ≤ length list.now) × (count ≤ length out.old) }
-    ensures { out.new ≡ over (take count list.now) out.old }
-{
-    let mut i = 0;
-    while i < count {
-        numbers::put(out, i, numbers::get(list, i));
-        i += 1;
+    for (i, &v) in list.iter().enumerate() {
+        F::put(out, i, v);
     }
 }
 
-// Writes the hits of a search that was judged into what is lent: those that were kept, where all were; else they are read again.
-fn write(
-    g: Grid,
-    reg: &[u32],
-    starts: &[u32],
-    entries: &[u32],
-    x: u32,
-    y: u32,
-    r: u32,
-    count: usize,
-    first: &[u32],
-    out: &mut [u32],
-)
-    requires { Writable g (tables reg.now starts.now entries.now) (at x y) r count first.now out.old }
-    ensures { out.new ≡ over (each (hit_writes g reg.now (at x y)) (radius_hits g (tables reg.now starts.now entries.now) (at x y) r)) out.old }
-{
-    if count <= numbers::count(first) {
-        copy(first, count, out);
-        return;
-    }
-    boxes::judge_box(g, reg, starts, entries, Point { x: x, y: y }, r, out);
-}
-
-// The search, with an array of any length to keep the first hits in.
-pub(crate) fn search_keeping(
-    g: Grid,
-    reg: &[u32],
-    starts: &[u32],
-    entries: &[u32],
-    x: u32,
-    y: u32,
-    r: u32,
-    first: &mut [u32],
-    out: &mut [u32],
-) -> Answer
-    ensures { (paper_answer result, out.new) ≡ searches g (tables reg.now starts.now entries.now) (record { x = x; y = y }) r out.old }
-{
-    match judge(g, reg, starts, entries, x, y, r, first) {
-        Answer::Refused(v) => Answer::Refused(v),
-        Answer::Done(count) => {
-            if (numbers::count(out) as u64) < count {
-                return Answer::Refused(Refusal::Room(count));
-            }
-            write(g, reg, starts, entries, x, y, r, count as usize, first, out);
-            Answer::Done(count)
+impl<F: Form> Asked<'_, F> {
+    // The search: all is judged and counted, and the first hits are kept, before one is written; where not all were kept, they are read a second
+    // time.
+    pub(crate) fn search_keeping(&self, first: &mut [u32], out: &mut [F]) -> Result<u64, Refusal>
+        ensures { (paper_answer result, F.numbers out.new) ≡ searches self.now.g self.now.t self.now.q self.now.r (F.numbers out.old) }
+    {
+        let count = self.judge_box(first).ok_or(Refusal::Damage)?;
+        if F::count(out) < count {
+            return Err(Refusal::Room(count as u64));
         }
+        if count <= first.len() {
+            copy(&first[..count], out);
+        } else {
+            self.judge_box(out);
+        }
+        Ok(count as u64)
     }
 }

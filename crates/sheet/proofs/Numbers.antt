@@ -3,24 +3,21 @@
 use mathlib.Core.Path.{◌≡◌, refl, sym, ap, ap₂, ◌∙◌}
 use mathlib.Core.List.{List, [], ◌∷◌}
 use Prim.Native.Nat.{ℕ, ◌+◌, ◌-◌, ◌*◌, ◌≤◌, ◌<◌}
-use native.Mathlib.Nat.{not-suc-le-zero}
 use native.Mathlib.Omega.{arith}
 use lib.Dec.{ltb}
 use lib.ListN.{length, get_or, take, drop, length-take, length-drop, get_or-append}
 use lib.Seq.{take-append-le, drop-append-le, get_or-drop, drop-drop}
+use Rattle.std.specs.Prelude.{Result, Ok, Err}
 use Rattle.laws.specs.Lists.{over, part}
 use Rattle.laws.proofs.Tests.{by_bool}
 use Rattle.rules.specs.Refusals.{Verdict, pass, refuse}
 use Rattle.rules.specs.Text.{Told, judged, Question, in_threes, sheet_grid, sheet_register, sheet_questions}
 use Rattle.rules.specs.Register.{count}
 use Rattle.rules.specs.declared.Refusal.{Refusal}
+use Rattle.rules.specs.declared.Refusal.TheVariants.{Room}
 use Rattle.rules.proofs.Counted.{footprints_said, numbers_enough}
-use Rattle.sheet.specs.Sheets.{most_numbers, sheet_of, judges}
-use Rattle.sheet.specs.declared.Sheet.TheVariants.{Good, Refused}
-
--- a refusal is no good sheet
-never : {A : Type 0} (r : Refusal) (count f : ℕ) → Refused r ≡ Good count f → A
-never r count f e = let z : ◌≡◌ {A = ℕ} 0 1 = cc in absurd (not-suc-le-zero {n = 0} (omega arith))
+use Rattle.sheet.specs.Sheets.{most_numbers, said as sheet_said, sheet_of, judges}
+use Rattle.sheet.specs.declared.judging.Sheet.{Sheet}
 
 -- ---- a good text
 
@@ -31,22 +28,26 @@ pub record GoodText (bytes : List ℕ) (count f : ℕ) : Type 0 where
   pub some : 2 + 4 * f ≤ count
   pub few : count ≤ most_numbers
 
-good_sheet : (t : Told) (v : Verdict) (count f : ℕ) → t.verdict ≡ v → sheet_of t ≡ Good count f
-    → (t.verdict ≡ pass) × (length t.said ≡ count) × (t.footprints ≡ f)
+good_sheet : (t : Told) (v : Verdict) (s : Sheet) → t.verdict ≡ v → sheet_of t ≡ Ok s
+    → (t.verdict ≡ pass) × (length t.said ≡ s.numbers) × (t.footprints ≡ s.footprints)
 unfolding sheet_of
-good_sheet t pass count f e g =
-    let s : Good (length t.said) t.footprints ≡ Good count f = rw e at g in
+good_sheet t pass s e g =
+    let z : ◌≡◌ {A = Result Sheet Refusal} (Ok (sheet_said (length t.said) t.footprints)) (Ok s) = rw e at g in
     (e, cc, cc)
-good_sheet t (refuse r) count f e g = never r count f (rw e at g)
+good_sheet t (refuse r) s e g =
+    let z : ◌≡◌ {A = Result Sheet Refusal} (Err r) (Ok s) = rw e at g in
+    cc
 
 -- what the judge's answer says of the text
-pub good_text : (bytes numbers : List ℕ) (count f : ℕ) → (judges bytes numbers).0 ≡ Good count f → GoodText bytes count f
+pub good_text : (bytes numbers : List ℕ) (s : Sheet) → (judges bytes numbers).0 ≡ Ok s → GoodText bytes s.numbers s.footprints
 unfolding judges
-good_text bytes numbers count f e =
+good_text bytes numbers s e =
     by_bool (ltb (length numbers) most_numbers)
-    (λ t. never _ count f (rw t at e))
     (λ t.
-    let g = good_sheet (judged bytes) (judged bytes).verdict count f refl (rw t at e) in
+    let z : ◌≡◌ {A = Result Sheet Refusal} (Err (Room most_numbers)) (Ok s) = rw t at e in
+    cc)
+    (λ t.
+    let g = good_sheet (judged bytes) (judged bytes).verdict s refl (rw t at e) in
     record {
       good = g.0;
       all_said = g.1;

@@ -8,19 +8,19 @@ use native.Mathlib.Omega.{arith}
 use lib.ListN.{length, take, drop, set, length-set, take-append-drop, drop_of_length-le}
 use lib.Seq.{take-suc-set, drop-set-lt, drop-drop, length-take-le, append_snoc}
 use borrow.Author.Tests.{lt-ltb, le-ltb}
+use Rattle.std.specs.Prelude.{Some, None, Result, Ok, Err}
 use Rattle.rules.specs.Refusals.{Verdict, pass, refuse, judge, unless}
 use Rattle.rules.specs.Text as text
 use Rattle.rules.specs.Text.{lines, follow, may_end, ends_footprint, Told, stopped, more, tells, judged}
+use Rattle.rules.specs.declared.Refusal.{Refusal}
 use Rattle.rules.specs.declared.Refusal.TheVariants.{Text, Room}
 use Rattle.rules.proofs.Texts.{enough_bytes, too_many_bytes}
 use Rattle.sheet.specs.Places.{key_of, read_at}
-use Rattle.sheet.specs.Sheets.{most_numbers, sheet_of, judges}
-use Rattle.sheet.specs.declared.Key.{Key}
-use Rattle.sheet.specs.declared.Key.TheVariants as key
-use Rattle.sheet.specs.declared.Line.{Line}
-use Rattle.sheet.specs.declared.Line.TheVariants.{Bad, Says}
-use Rattle.sheet.specs.declared.Sheet.{Sheet}
-use Rattle.sheet.specs.declared.Sheet.TheVariants.{Good, Refused}
+use Rattle.sheet.specs.Sheets.{most_numbers, said, sheet_of, judges}
+use Rattle.sheet.specs.declared.lines.Key.{Key}
+use Rattle.sheet.specs.declared.lines.Key.TheVariants as key
+use Rattle.sheet.specs.declared.lines.Line.{Line}
+use Rattle.sheet.specs.declared.judging.Sheet.{Sheet}
 use Rattle.rules.proofs.Counted.{follow_wordy}
 use Rattle.sheet.proofs.Reading.{read_behind, tells_bad, tells_more}
 
@@ -80,43 +80,43 @@ module _ (bytes numbers₀ numbers : List ℕ) (last : Key) (at count footprints
     (i : Judging bytes numbers₀ numbers last at count footprints) (room : most_numbers ≤ length numbers₀) where
   -- ---- a line that says something
 
-  module _ (m : length bytes ≤ 65536) (h : at < length bytes) (line : Line) (r : line ≡ read_at (follow (key_of last)) bytes at) (j : Key) (n place : ℕ) (s : line ≡ Says j n place)
+  module _ (m : length bytes ≤ 65536) (h : at < length bytes) (a : Line) (r : read_at (follow (key_of last)) bytes at ≡ Some a)
     where
-      pub line_within : (at + 4 ≤ place) × (place ≤ length bytes)
+      pub line_within : (at + 4 ≤ a.behind) × (a.behind ≤ length bytes)
       line_within =
-          let b = read_behind (follow (key_of last)) bytes at j n place (follow_wordy (key_of last)) (sym r ∙ s) in
+          let b = read_behind (follow (key_of last)) bytes at a (follow_wordy (key_of last)) r in
           (b.1, b.2)
 
-      pub few_more : (e : ℕ) → e ≡ ends_footprint (key_of j) → footprints + e ≤ count + 1
-      few_more e z = omega (arith, i.few, one_footprint (key_of j))
+      pub few_more : (e : ℕ) → e ≡ ends_footprint (key_of a.key) → footprints + e ≤ count + 1
+      few_more e z = omega (arith, i.few, one_footprint (key_of a.key))
 
-      pub judging_line : (e : ℕ) → e ≡ ends_footprint (key_of j)
-          → Judging bytes numbers₀ (set numbers count n) j place (count + 1) (footprints + e)
+      pub judging_line : (e : ℕ) → e ≡ ends_footprint (key_of a.key)
+          → Judging bytes numbers₀ (set numbers count a.number) a.key a.behind (count + 1) (footprints + e)
       judging_line e z =
           let w = line_within in
           let c : count < length numbers = omega (arith, i.short, i.size) in
-          let t = tells_more (key_of last) (count + 1) bytes at h j n place (sym r ∙ s) in
-          let a : count + 1 ≡ suc count = add-one count in
-          let d : drop (count + 1) (set numbers count n) ≡ drop (count + 1) numbers = drop-set-lt (count + 1) numbers count n (omega arith) in
-          let u : take (count + 1) (set numbers count n) ≡ take count numbers ++ (n ∷ []) = rw a (take-suc-set numbers count n c) in
+          let t = tells_more (key_of last) (count + 1) bytes at h a r in
+          let o : count + 1 ≡ suc count = add-one count in
+          let d : drop (count + 1) (set numbers count a.number) ≡ drop (count + 1) numbers = drop-set-lt (count + 1) numbers count a.number (omega arith) in
+          let u : take (count + 1) (set numbers count a.number) ≡ take count numbers ++ (a.number ∷ []) = rw o (take-suc-set numbers count a.number c) in
           let v : suc (count + 1) ≡ count + 1 + 1 = sym (add-one (count + 1)) in
           record {
             within = w.1;
             short = omega (arith, i.short);
             few = few_more e z;
-            size = length-set numbers count n ∙ i.size;
+            size = length-set numbers count a.number ∙ i.size;
             rest = d ∙ sym (drop-drop 1 count numbers) ∙ ap (drop 1) i.rest ∙ drop-drop 1 count numbers₀;
             whole =
                 i.whole
                 ∙ ap (before (take count numbers) footprints) t
-                ∙ before_more (take count numbers) footprints (key_of j) n (tells (key_of j) (suc (count + 1)) (lines (drop place bytes)))
+                ∙ before_more (take count numbers) footprints (key_of a.key) a.number (tells (key_of a.key) (suc (count + 1)) (lines (drop a.behind bytes)))
                 ∙ rw (u, z, v);
           }
 
   -- ---- the end, at a line or behind the last
 
   finished : length bytes ≤ 65536 → (v : Verdict) → tells (key_of last) (count + 1) (lines (drop at bytes)) ≡ stopped v
-      → ◌≡◌ {A = Sheet × List ℕ} (unless v Refused (Good count footprints), numbers) (judges bytes numbers₀)
+      → ◌≡◌ {A = Result Sheet Refusal × List ℕ} (unless v Err (Ok (said count footprints)), numbers) (judges bytes numbers₀)
   unfolding judges sheet_of
   finished m v e =
       let c : count ≤ length numbers = omega (arith, i.short, i.size, i.within) in
@@ -125,10 +125,9 @@ module _ (bytes numbers₀ numbers : List ℕ) (last : Key) (at count footprints
       let z : footprints + 0 ≡ footprints = omega arith in
       rw (le-ltb (length numbers₀) most_numbers room, b, append-nil, length-take-le count numbers c, z, ← i.rest, take-append-drop)
 
-  pub judged_bad : length bytes ≤ 65536 → at < length bytes → (line : Line) → line ≡ read_at (follow (key_of last)) bytes at → line ≡ Bad
-      → ◌≡◌ {A = Sheet × List ℕ} (Refused (Text (count + 1)), numbers) (judges bytes numbers₀)
-  judged_bad m h line r s =
-      finished m (refuse (Text (count + 1))) (tells_bad (key_of last) (count + 1) bytes at h (sym r ∙ s))
+  pub judged_bad : length bytes ≤ 65536 → at < length bytes → read_at (follow (key_of last)) bytes at ≡ None
+      → ◌≡◌ {A = Result Sheet Refusal × List ℕ} (Err (Text (count + 1)), numbers) (judges bytes numbers₀)
+  judged_bad m h r = finished m (refuse (Text (count + 1))) (tells_bad (key_of last) (count + 1) bytes at h r)
 
   at_end : length bytes ≤ at → (b : Bool) → b ≡ may_end (key_of last)
       → tells (key_of last) (count + 1) (lines (drop at bytes)) ≡ stopped (judge (not b) (Text (count + 1)) pass)
@@ -136,21 +135,21 @@ module _ (bytes numbers₀ numbers : List ℕ) (last : Key) (at count footprints
   at_end h b e = rw (drop_of_length-le bytes h, e)
 
   pub judged_good : length bytes ≤ 65536 → length bytes ≤ at → (b : Bool) → b ≡ may_end (key_of last) → b ≡ true
-      → ◌≡◌ {A = Sheet × List ℕ} (Good count footprints, numbers) (judges bytes numbers₀)
+      → ◌≡◌ {A = Result Sheet Refusal × List ℕ} (Ok (said count footprints), numbers) (judges bytes numbers₀)
   judged_good m h b e t = finished m pass (at_end h true (sym t ∙ e))
 
   pub judged_short : length bytes ≤ 65536 → length bytes ≤ at → (b : Bool) → b ≡ may_end (key_of last) → b ≡ false
-      → ◌≡◌ {A = Sheet × List ℕ} (Refused (Text (count + 1)), numbers) (judges bytes numbers₀)
+      → ◌≡◌ {A = Result Sheet Refusal × List ℕ} (Err (Text (count + 1)), numbers) (judges bytes numbers₀)
   judged_short m h b e t = finished m (refuse (Text (count + 1))) (at_end h false (sym t ∙ e))
 
 -- too many bytes
 pub judged_long : (bytes numbers : List ℕ) → most_numbers ≤ length numbers → 65536 < length bytes
-    → ◌≡◌ {A = Sheet × List ℕ} (Refused (Text 0), numbers) (judges bytes numbers)
+    → ◌≡◌ {A = Result Sheet Refusal × List ℕ} (Err (Text 0), numbers) (judges bytes numbers)
 unfolding judges sheet_of
 judged_long bytes numbers room h = rw (le-ltb (length numbers) most_numbers room, too_many_bytes bytes h)
 
 -- too few numbers lent
 pub judged_roomless : (bytes numbers : List ℕ) → length numbers < most_numbers
-    → ◌≡◌ {A = Sheet × List ℕ} (Refused (Room most_numbers), numbers) (judges bytes numbers)
+    → ◌≡◌ {A = Result Sheet Refusal × List ℕ} (Err (Room most_numbers), numbers) (judges bytes numbers)
 unfolding judges
 judged_roomless bytes numbers h = rw (lt-ltb (length numbers) most_numbers h)

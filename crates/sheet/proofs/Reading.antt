@@ -4,12 +4,12 @@ use mathlib.Core.Path.{◌≡◌, refl, sym, ap, ◌∙◌}
 use mathlib.Core.Bool.{Bool, true, ◌&&◌}
 use mathlib.Core.List.{List, [], ◌∷◌}
 use Prim.Native.Nat.{ℕ, suc, ◌+◌, ◌≤◌, ◌<◌}
-use native.Mathlib.Nat.{not-suc-le-zero}
 use native.Mathlib.Omega.{arith}
 use lib.Dec.{eqb, leb}
 use lib.ListN.{length, get_or, drop, get_or-eq_default}
 use lib.Seq.{drop-drop, get_or-drop, drop-cons}
 use borrow.Author.Tests.{leb-true, eqb-true}
+use Rattle.std.specs.Prelude.{Option, Some, None}
 use Rattle.laws.specs.Lists.{all}
 use Rattle.laws.proofs.Tests.{by_bool, by_le, fst_true, snd_true}
 use Rattle.rules.proofs.Written.{word_line}
@@ -19,20 +19,14 @@ use Rattle.rules.specs.Text.{lf, lines, digits, after_digits, value, is_decimal,
 use Rattle.rules.specs.Refusals.{refuse}
 use Rattle.rules.specs.declared.Refusal.TheVariants.{Text}
 use Rattle.sheet.specs.Places.{key_of, coded, decimal_at, numbered_at, read_at}
-use Rattle.sheet.specs.declared.Key.{Key}
-use Rattle.sheet.specs.declared.Line.{Line}
-use Rattle.sheet.specs.declared.Line.TheVariants.{Bad, Says}
+use Rattle.sheet.specs.declared.lines.Line.{Line}
 use Rattle.sheet.proofs.Words.{key_coded}
 use Rattle.sheet.proofs.FirstLine.{first_line, behind_line, lines_first, word_first, word_behind, digits_first, after_digits_first, behind_line_digits, after_digits_drop, lf_first, behind_line_lf}
 
 -- what a line of the code says
-unfoldable pub line_said : Line → text.Line
-line_said Bad = bad
-line_said (Says k n place) = says (key_of k) n
-
--- a bad line says nothing
-never : {A : Type 0} (k : Key) (n place : ℕ) → Bad ≡ Says k n place → A
-never k n place e = let z : ◌≡◌ {A = ℕ} 0 1 = cc in absurd (not-suc-le-zero {n = 0} (omega arith))
+unfoldable pub line_said : Option Line → text.Line
+line_said None = bad
+line_said (Some a) = says (key_of a.key) a.number
 
 -- ---- a number and its LF
 
@@ -84,21 +78,21 @@ module _ (k : text.Key) (l : List ℕ) (at : ℕ) where
       ∙ ap (drop 1) (after_digits_drop (drop at l) ∙ drop-drop many at l)
       ∙ drop-drop 1 (at + many) l
 
-  pub numbered_behind : (j : Key) (n place : ℕ) → numbered_at k l at ≡ Says j n place
-      → (behind_line (drop at l) ≡ drop place l) × (at + 2 ≤ place) × (place ≤ length l)
+  pub numbered_behind : (a : Line) → numbered_at k l at ≡ Some a
+      → (behind_line (drop at l) ≡ drop a.behind l) × (at + 2 ≤ a.behind) × (a.behind ≤ length l)
   unfolding numbered_at decimal_at
-  numbered_behind j n place h =
+  numbered_behind a h =
       by_bool (is_decimal (digits (drop at l)))
       (λ e.
       by_bool lf_next
       (λ f.
-      let s : Says (coded k) (value 0 (digits (drop at l))) (at + many + 1) ≡ Says j n place = rw (e, f) at h in
-      let z : at + many + 1 ≡ place = cc in
+      let s : ◌≡◌ {A = Option Line} (Some (record { key = coded k; number = value 0 (digits (drop at l)); behind = at + many + 1 })) (Some a) = rw (e, f) at h in
+      let z : at + many + 1 ≡ a.behind = cc in
       let d = decimal_some e in
       let w = lf_within f in
       (line_behind f ∙ ap (λ (p : ℕ). drop p l) z, omega arith, omega arith))
-      (λ f. never j n place (rw (e, f) at h)))
-      (λ e. never j n place (rw e at h))
+      (λ f. let s : ◌≡◌ {A = Option Line} None (Some a) = rw (e, f) at h in cc))
+      (λ e. let s : ◌≡◌ {A = Option Line} None (Some a) = rw e at h in cc)
 
 -- ---- a line under one of some keys
 
@@ -113,18 +107,18 @@ read_agrees (k ∷ ks) l at =
     (ap (numbered k) (b.0 ∙ ap first_line (drop-drop (length (word k)) at l)) ∙ numbered_agrees k l (at + length (word k))))
     (λ e. rw (word_first (word k) (drop at l) (word_line k), e) (read_agrees ks l at))
 
-pub read_behind : (ks : List text.Key) (l : List ℕ) (at : ℕ) (j : Key) (n place : ℕ) → all wordy ks ≡ true → read_at ks l at ≡ Says j n place
-    → (behind_line (drop at l) ≡ drop place l) × (at + 4 ≤ place) × (place ≤ length l)
+pub read_behind : (ks : List text.Key) (l : List ℕ) (at : ℕ) (a : Line) → all wordy ks ≡ true → read_at ks l at ≡ Some a
+    → (behind_line (drop at l) ≡ drop a.behind l) × (at + 4 ≤ a.behind) × (a.behind ≤ length l)
 unfolding read_at wordy
-read_behind [] l at j n place h e = never j n place e
-read_behind (k ∷ ks) l at j n place h e =
+read_behind [] l at a h e = cc
+read_behind (k ∷ ks) l at a h e =
     by_bool (begins_with (word k) (drop at l))
     (λ t.
     let b = word_behind (word k) (drop at l) (word_line k) t in
-    let r = numbered_behind k l (at + length (word k)) j n place (rw t at e) in
+    let r = numbered_behind k l (at + length (word k)) a (rw t at e) in
     let w = leb-true 2 (length (word k)) (fst_true (leb 2 (length (word k))) (all wordy ks) h) in
     (b.1 ∙ ap behind_line (drop-drop (length (word k)) at l) ∙ r.0, omega arith, r.2))
-    (λ t. read_behind ks l at j n place (snd_true (wordy k) (all wordy ks) h) (rw t at e))
+    (λ t. read_behind ks l at a (snd_true (wordy k) (all wordy ks) h) (rw t at e))
 
 -- ---- the lines from a place on
 
@@ -137,18 +131,18 @@ module _ (k : text.Key) (i : ℕ) (l : List ℕ) (at : ℕ) (h : at < length l) 
       let f : lines (drop at l) ≡ first_line (drop at l) ∷ lines (behind_line (drop at l)) =
       rw d (lines_first (get_or l at 0) (drop (suc at) l)) in
       ap (tells k i) f
-      ∙ ap (λ (a : text.Line). heard i a (λ (next : text.Key). tells next (suc i) (lines (behind_line (drop at l)))))
+      ∙ ap (λ (b : text.Line). heard i b (λ (next : text.Key). tells next (suc i) (lines (behind_line (drop at l)))))
       (read_agrees (follow k) l at)
 
-  pub tells_bad : read_at (follow k) l at ≡ Bad → tells k i (lines (drop at l)) ≡ stopped (refuse (Text i))
+  pub tells_bad : read_at (follow k) l at ≡ None → tells k i (lines (drop at l)) ≡ stopped (refuse (Text i))
   unfolding line_said
-  tells_bad e = tells_first ∙ ap (λ (a : Line). heard i (line_said a) (λ (next : text.Key). tells next (suc i) (lines (behind_line (drop at l))))) e
+  tells_bad e = tells_first ∙ ap (λ (b : Option Line). heard i (line_said b) (λ (next : text.Key). tells next (suc i) (lines (behind_line (drop at l))))) e
 
-  pub tells_more : (j : Key) (n place : ℕ) → read_at (follow k) l at ≡ Says j n place
-      → tells k i (lines (drop at l)) ≡ more (key_of j) n (tells (key_of j) (suc i) (lines (drop place l)))
+  pub tells_more : (a : Line) → read_at (follow k) l at ≡ Some a
+      → tells k i (lines (drop at l)) ≡ more (key_of a.key) a.number (tells (key_of a.key) (suc i) (lines (drop a.behind l)))
   unfolding line_said
-  tells_more j n place e =
+  tells_more a e =
       tells_first
-      ∙ ap (λ (a : Line). heard i (line_said a) (λ (next : text.Key). tells next (suc i) (lines (behind_line (drop at l))))) e
-      ∙ ap (λ (m : List ℕ). more (key_of j) n (tells (key_of j) (suc i) (lines m)))
-      (read_behind (follow k) l at j n place (follow_wordy k) e).0
+      ∙ ap (λ (b : Option Line). heard i (line_said b) (λ (next : text.Key). tells next (suc i) (lines (behind_line (drop at l))))) e
+      ∙ ap (λ (m : List ℕ). more (key_of a.key) a.number (tells (key_of a.key) (suc i) (lines m)))
+      (read_behind (follow k) l at a (follow_wordy k) e).0

@@ -1,24 +1,26 @@
--- Words and lines at a place, step by step. Assumes nothing.
+-- Keys, words and lines at a place, step by step. Assumes nothing.
 use mathlib.Core.Path.{◌≡◌, refl, sym, ap, ◌∙◌}
-use mathlib.Core.Bool.{Bool, true, false, cond}
-use mathlib.Core.List.{List, ◌∷◌}
+use mathlib.Core.Bool.{Bool, true, false, ◌&&◌}
+use mathlib.Core.List.{List, [], ◌∷◌}
 use Prim.Native.Nat.{ℕ, ◌+◌, ◌≤◌, ◌<◌}
 use native.Mathlib.Numerals.{add-one}
 use native.Mathlib.Omega.{arith}
-use lib.Dec.{eqb}
-use lib.ListN.{length, get_or, drop, drop_of_length-le, length-drop, get_or-eq_default}
+use lib.Dec.{eqb, leb}
+use lib.ListN.{length, get_or, drop, get_or-eq_default, drop_of_length-le, length-drop}
 use lib.Seq.{drop-cons}
-use borrow.Author.Tests.{eq-eqb, ne_eqb}
-use Rattle.laws.proofs.Tests.{by_bool}
-use Rattle.rules.proofs.Counted.{word_fits}
+use borrow.Author.Tests.{eq-eqb, ne_eqb, leb-true}
+use Rattle.std.specs.List.{starts_with}
+use Rattle.std.specs.Prelude.{Option, Some, None, map}
+use Rattle.laws.specs.Lists.{all}
+use Rattle.laws.proofs.Tests.{by_bool, fst_true, snd_true}
+use Rattle.rules.proofs.Counted.{wordy, word_fits}
 use Rattle.rules.specs.Text as text
 use Rattle.rules.specs.Text.{lf, word, begins_with}
-use Rattle.sheet.specs.Places.{key_of, coded, word_at, decimal_at, ended, numbered_at, read_at}
-use Rattle.sheet.specs.declared.Number.{Number}
-use Rattle.sheet.specs.declared.Number.TheVariants as number
-use Rattle.sheet.specs.declared.Key.{Key}
-use Rattle.sheet.specs.declared.Key.TheVariants as key
-use Rattle.sheet.specs.declared.Line.TheVariants.{Bad, Says}
+use Rattle.sheet.specs.Places.{key_of, coded, decimal_at, ended, numbered_at, read_at}
+use Rattle.sheet.specs.declared.decimals.Decimal.{Decimal}
+use Rattle.sheet.specs.declared.lines.Key.{Key}
+use Rattle.sheet.specs.declared.lines.Key.TheVariants as key
+use Rattle.sheet.specs.declared.lines.Line.{Line}
 
 -- ---- keys
 
@@ -48,82 +50,64 @@ key_coded text.X = refl
 key_coded text.Y = refl
 key_coded text.R = refl
 
--- ---- a word, byte by byte
+-- ---- a word
 
--- the bytes compared are equal, and those that are left decide
-pub word_next : (w l : List ℕ) (i place : ℕ) → i < length w → place < length l → get_or l place 0 ≡ get_or w i 0
-    → begins_with (drop i w) (drop place l) ≡ begins_with (drop (i + 1) w) (drop (place + 1) l)
+-- the library's test of a prefix, byte by byte
+pub begins_so : (w l : List ℕ) → starts_with eqb l w ≡ begins_with w l
 unfolding begins_with
-word_next w l i place h k e =
-    rw (drop-cons w i 0 h, drop-cons l place 0 k, add-one, add-one, e, eq-eqb (get_or w i 0) (get_or w i 0) refl)
+begins_so [] l = refl
+begins_so (a ∷ w) [] = refl
+begins_so (a ∷ w) (b ∷ l) = ap (λ (t : Bool). eqb a b && t) (begins_so w l)
 
-pub word_differs : (w l : List ℕ) (i place : ℕ) → i < length w → place < length l → (get_or l place 0 ≡ get_or w i 0 → ⊥)
-    → begins_with (drop i w) (drop place l) ≡ false
-unfolding begins_with
-word_differs w l i place h k e =
-    rw (drop-cons w i 0 h, drop-cons l place 0 k, ne_eqb (get_or w i 0) (get_or l place 0) (λ z. e (sym z)))
+-- ---- the line at a place, under one of some keys
 
-pub word_cut : (w l : List ℕ) (i place : ℕ) → i < length w → length l ≤ place → begins_with (drop i w) (drop place l) ≡ false
-unfolding begins_with
-word_cut w l i place h k = rw (drop-cons w i 0 h, drop_of_length-le l k)
-
-pub word_whole : (w l : List ℕ) (i place : ℕ) → length w ≤ i → begins_with (drop i w) (drop place l) ≡ true
-unfolding begins_with
-word_whole w l i place h = rw (drop_of_length-le w h)
-
-pub word_none : (w l : List ℕ) (at : ℕ) → begins_with w (drop at l) ≡ false → 0 ≡ word_at w l at
-unfolding word_at
-word_none w l at e = rw e
-
-pub word_all : (w l : List ℕ) (at i : ℕ) → i ≡ length w → begins_with w (drop at l) ≡ true → i ≡ word_at w l at
-unfolding word_at
-word_all w l at i h e = h ∙ rw e
-
--- ---- lines
-
--- what the length of a key's word at a place says of the line there
-pub no_key : (k : text.Key) (ks : List text.Key) (l : List ℕ) (at : ℕ) → 0 < length (word k) → word_at (word k) l at ≡ 0
-    → read_at (k ∷ ks) l at ≡ read_at ks l at
-unfolding word_at read_at
-no_key k ks l at h e =
+-- behind the text's end there is none
+pub read_past : (ks : List text.Key) (l : List ℕ) (at : ℕ) → all wordy ks ≡ true → length l ≤ at → ◌≡◌ {A = Option Line} None (read_at ks l at)
+unfolding read_at wordy
+read_past [] l at w h = refl
+read_past (k ∷ ks) l at w h =
     by_bool (begins_with (word k) (drop at l))
-    (λ t. absurd (omega (arith, sym (ap (λ (b : Bool). cond b (length (word k)) 0) t) ∙ e)))
-    (λ t. rw t)
+    (λ t. absurd (omega (arith, word_fits (word k) (drop at l) t, length-drop at l, leb-true 2 (length (word k)) (fst_true (leb 2 (length (word k))) (all wordy ks) w))))
+    (λ t. rw t (read_past ks l at (snd_true (wordy k) (all wordy ks) w) h))
 
-pub some_key : (k : text.Key) (ks : List text.Key) (l : List ℕ) (at w : ℕ) → w ≡ word_at (word k) l at → (w ≡ 0 → ⊥)
-    → (at + w ≤ length l) × (numbered_at k l (at + w) ≡ read_at (k ∷ ks) l at)
-unfolding word_at read_at
-some_key k ks l at w e z =
-    by_bool (begins_with (word k) (drop at l))
-    (λ t.
-    let d : w ≡ length (word k) = e ∙ ap (λ (b : Bool). cond b (length (word k)) 0) t in
-    let f = word_fits (word k) (drop at l) t in
-    (omega (arith, length-drop at l, z), rw (t, d)))
-    (λ t. absurd (z (e ∙ ap (λ (b : Bool). cond b (length (word k)) 0) t)))
+-- the key that is tried
+abbrev pub here : List Key → ℕ → Key → text.Key
+here ks i d = key_of (get_or ks i d)
+
+module _ (ks : List Key) (i : ℕ) (d : Key) (h : i < length ks) (l : List ℕ) (at : ℕ) where
+  pub this_key : begins_with (word (here ks i d)) (drop at l) ≡ true
+      → numbered_at (here ks i d) l (at + length (word (here ks i d))) ≡ read_at (map key_of (drop i ks)) l at
+  unfolding read_at
+  this_key e = rw (drop-cons ks i d h, e)
+
+  pub other_key : begins_with (word (here ks i d)) (drop at l) ≡ false
+      → read_at (map key_of (drop (i + 1) ks)) l at ≡ read_at (map key_of (drop i ks)) l at
+  unfolding read_at
+  other_key e = rw (drop-cons ks i d h, e, add-one)
+
+pub no_key : (ks : List Key) (i : ℕ) (l : List ℕ) (at : ℕ) → length ks ≤ i → ◌≡◌ {A = Option Line} None (read_at (map key_of (drop i ks)) l at)
+unfolding read_at
+no_key ks i l at h = rw (drop_of_length-le ks h)
 
 -- ---- a line's number and its LF
 
-module _ (k : Key) (l : List ℕ) (at : ℕ) where
-  pub line_numberless : (r : Number) → r ≡ decimal_at l at → r ≡ number.Bad → Bad ≡ numbered_at (key_of k) l at
+module _ (k : Key) (l : List ℕ) (at : ℕ) (r : Option Decimal) (is : r ≡ decimal_at l at) where
+  pub line_numberless : r ≡ None → ◌≡◌ {A = Option Line} None (numbered_at (key_of k) l at)
   unfolding numbered_at
-  line_numberless r e f = sym (ap (ended (key_of k) l) (sym e ∙ f))
+  line_numberless e = ap (ended (key_of k) l) (sym e ∙ is)
 
-  module _ (r : Number) (n end : ℕ) (e : r ≡ decimal_at l at) (f : r ≡ number.Decimal n end) where
-    line_so_far : ended (key_of k) l (number.Decimal n end) ≡ numbered_at (key_of k) l at
+  module _ (d : Decimal) (e : r ≡ Some d) where
+    pub line_goes_on : (get_or l d.end 0 ≡ lf → ⊥) → ◌≡◌ {A = Option Line} None (numbered_at (key_of k) l at)
     unfolding numbered_at
-    line_so_far = ap (ended (key_of k) l) (sym f ∙ e)
+    line_goes_on h = rw (← is, e, ne_eqb (get_or l d.end 0) lf h)
 
-    pub line_endless : length l ≤ end → Bad ≡ numbered_at (key_of k) l at
-    line_endless h =
-        let z : eqb (get_or l end 0) lf ≡ false = rw (get_or-eq_default l 0 h) in
-        sym (ap (λ (b : Bool). cond b (Says (coded (key_of k)) n (end + 1)) Bad) z) ∙ line_so_far
+    pub line_endless : length l ≤ d.end → ◌≡◌ {A = Option Line} None (numbered_at (key_of k) l at)
+    line_endless h = line_goes_on (λ f. absurd (omega (arith, get_or-eq_default l 0 h, f)))
 
-    pub line_goes_on : (get_or l end 0 ≡ lf → ⊥) → Bad ≡ numbered_at (key_of k) l at
-    line_goes_on h =
-        sym (ap (λ (b : Bool). cond b (Says (coded (key_of k)) n (end + 1)) Bad) (ne_eqb (get_or l end 0) lf h)) ∙ line_so_far
+    pub line_ends : get_or l d.end 0 ≡ lf
+        → ◌≡◌ {A = Option Line} (Some (record { key = k; number = d.number; behind = d.end + 1 })) (numbered_at (key_of k) l at)
+    unfolding numbered_at
+    line_ends h = rw (← is, e, eq-eqb (get_or l d.end 0) lf h, coded_key k)
 
-    pub line_ends : get_or l end 0 ≡ lf → Says k n (end + 1) ≡ numbered_at (key_of k) l at
-    line_ends h =
-        ap (λ (j : Key). Says j n (end + 1)) (sym (coded_key k))
-        ∙ sym (ap (λ (b : Bool). cond b (Says (coded (key_of k)) n (end + 1)) Bad) (eq-eqb (get_or l end 0) lf h))
-        ∙ line_so_far
+-- what a line under one key takes
+pub ruleset a_line = (line_numberless, line_goes_on, line_endless, line_ends)

@@ -1,13 +1,11 @@
 -- What stands in a text at a place: a decimal, a key, a line. Assumes nothing.
-use Rattle.std.specs.Prelude.{cond, List, [], ◌∷◌, ℕ, ◌+◌, eqb, length, get_or, drop}
+use Rattle.std.specs.Prelude.{cond, List, [], ◌∷◌, ℕ, ◌+◌, eqb, length, get_or, drop, Option, Some, None}
 use Rattle.rules.specs.Text as text
 use Rattle.rules.specs.Text.{lf, digits, value, is_decimal, word, begins_with}
-use Rattle.sheet.specs.declared.Number.{Number}
-use Rattle.sheet.specs.declared.Number.TheVariants as number
-use Rattle.sheet.specs.declared.Key.{Key}
-use Rattle.sheet.specs.declared.Key.TheVariants as key
-use Rattle.sheet.specs.declared.Line.{Line}
-use Rattle.sheet.specs.declared.Line.TheVariants.{Bad, Says}
+use Rattle.sheet.specs.declared.decimals.Decimal.{Decimal}
+use Rattle.sheet.specs.declared.lines.Key.{Key}
+use Rattle.sheet.specs.declared.lines.Key.TheVariants as key
+use Rattle.sheet.specs.declared.lines.Line.{Line}
 
 -- ---- keys
 
@@ -37,27 +35,24 @@ coded text.X = key.X
 coded text.Y = key.Y
 coded text.R = key.R
 
--- how many bytes a word has, if it stands at a place; else 0
-unfoldable pub word_at : List ℕ → List ℕ → ℕ → ℕ
-word_at w l at = cond (begins_with w (drop at l)) (length w) 0
-
 -- ---- a decimal and a line
 
 -- the decimal at a place
-unfoldable pub decimal_at : List ℕ → ℕ → Number
+unfoldable pub decimal_at : List ℕ → ℕ → Option Decimal
 decimal_at l at =
-    cond (is_decimal (digits (drop at l))) (number.Decimal (value 0 (digits (drop at l))) (at + length (digits (drop at l)))) number.Bad
+    cond (is_decimal (digits (drop at l)))
+    (Some (record { number = value 0 (digits (drop at l)); end = at + length (digits (drop at l)) })) None
 
 -- a line whose number was read: LF has to follow
-abbrev pub ended : text.Key → List ℕ → Number → Line
-ended k l number.Bad = Bad
-ended k l (number.Decimal n end) = cond (eqb (get_or l end 0) lf) (Says (coded k) n (end + 1)) Bad
+abbrev pub ended : text.Key → List ℕ → Option Decimal → Option Line
+ended k l None = None
+ended k l (Some d) = cond (eqb (get_or l d.end 0) lf) (Some (record { key = coded k; number = d.number; behind = d.end + 1 })) None
 
 -- a line under a key, its number at a place
-unfoldable pub numbered_at : text.Key → List ℕ → ℕ → Line
+unfoldable pub numbered_at : text.Key → List ℕ → ℕ → Option Line
 numbered_at k l at = ended k l (decimal_at l at)
 
 -- the line at a place, under one of some keys
-unfoldable pub read_at : List text.Key → List ℕ → ℕ → Line
-read_at [] l at = Bad
+unfoldable pub read_at : List text.Key → List ℕ → ℕ → Option Line
+read_at [] l at = None
 read_at (k ∷ ks) l at = cond (begins_with (word k) (drop at l)) (numbered_at k l (at + length (word k))) (read_at ks l at)

@@ -1,64 +1,63 @@
 // A decimal of 1 to 7 digits, read from a slice at a place.
-ghost use Rattle.std.specs.Prelude.{◌≡◌, ◌≤◌, length, drop};
-ghost use Rattle.rules.specs.Text.{is_digit, digits, value};
+ghost use Rattle.std.specs.Prelude.{◌≡◌, ◌≤◌, true, length};
+ghost use Rattle.std.specs.Char.{is_ascii_digit};
+ghost use Rattle.std.specs.List.{prefix_len};
+ghost use Rattle.laws.specs.Lists.{all};
+ghost use Rattle.rules.specs.Text.{is_digit, value, is_decimal};
 ghost use Rattle.sheet.specs.Places.{decimal_at};
 
-use crate::Number;
+// A decimal has so many digits at most.
+const MOST_DIGITS: usize = 7;
 
-// Whether a byte is `0` to `9`.
-fn is_digit(byte: u8) -> bool
-    ensures { result ≡ is_digit byte }
-{
-    if byte < 48 {
-        return false;
-    }
-    byte <= 57
+// A decimal: its number, and the place behind its digits.
+#[derive(Clone, Copy, PartialEq, Eq)]
+pub struct Decimal {
+    pub number: u32,
+    pub end: usize,
 }
 
-// How many digits stand from a place on.
-fn digits_at(text: &[u8], at: usize) -> usize
-    ensures { result ≡ length (digits (drop at text.now)) }
+// How many digits a text begins with.
+fn digit_count(text: &[u8]) -> usize
+    ensures { result ≡ prefix_len is_ascii_digit text.now }
 {
-    let mut place = at;
-    while place < text.len() {
-        if !is_digit(text[place]) {
-            return place - at;
-        }
-        place += 1;
-    }
-    place - at
+    text.iter().take_while(|byte| byte.is_ascii_digit()).count()
 }
 
-// The number that the digits from a place on say, 7 of them at most.
-fn value_at(text: &[u8], at: usize, count: usize) -> u32
-    requires count_value { count ≡ length (digits (drop at text.now)) }
-    requires count_bound { count ≤ 7 }
-    ensures { result ≡ value 0 (digits (drop at text.now)) }
+// Whether digits are a decimal: 1 to 7 of them, no leading zero.
+#[tactic(auto, using(std::proofs::lemmas::Bool::Decides::nat_tests), unfolding(rules::specs::Text::is_decimal))]
+fn is_decimal(digits: &[u8]) -> bool
+    ensures { result ≡ is_decimal digits.now }
 {
-    let mut n: u32 = 0;
-    let mut k: usize = 0;
-    while k < count {
-        n = 10 * n + (text[at + k] - 48) as u32;
-        k += 1;
+    1 <= digits.len() && digits.len() <= MOST_DIGITS && (digits.len() == 1 || digits[0] != b'0')
+}
+
+// The number that digits say, 7 of them at most.
+#[tactic(auto, using(crate::proofs::Digits::reading))]
+fn value_of(digits: &[u8]) -> u32
+    requires digits_alone { all is_digit digits.now ≡ true }
+    requires few { length digits.now ≤ MOST_DIGITS }
+    ensures { result ≡ value 0 digits.now }
+{
+    let mut number = 0;
+    for digit in digits {
+        number = 10 * number + u32::from(*digit - b'0');
     }
-    n
+    number
 }
 
 // The decimal that stands at a place, whatever follows its digits.
-pub fn number_at(text: &[u8], at: usize) -> Number
+#[tactic(auto, using(std::proofs::lemmas::Grind::common_steps, crate::proofs::Digits::a_decimal))]
+pub fn number_at(text: &[u8], at: usize) -> Option<Decimal>
     ensures { result ≡ decimal_at text.now at }
 {
-    let count = digits_at(text, at);
-    if count < 1 {
-        return Number::Bad;
+    let rest = text.get(at..)?;
+    let digits = &rest[..digit_count(rest)];
+    if is_decimal(digits) {
+        Some(Decimal {
+            number: value_of(digits),
+            end: at + digits.len(),
+        })
+    } else {
+        None
     }
-    if 7 < count {
-        return Number::Bad;
-    }
-    if 1 < count {
-        if text[at] == 48 {
-            return Number::Bad;
-        }
-    }
-    Number::Decimal(value_at(text, at, count), at + count)
 }

@@ -17,14 +17,14 @@ use Rattle.rules.specs.Build.{bad_run, run_verdict, run_ends, run_place, run_par
 use Rattle.rules.specs.declared.Grid.{Grid}
 use Rattle.rules.specs.declared.Refusal.{Refusal}
 use Rattle.rules.specs.declared.Refusal.TheVariants.{Damage}
-use Rattle.rules.specs.declared.Ends.TheVariants.{At}
+use Rattle.std.specs.Prelude.{Ok}
 use Rattle.rules.proofs.Papers.{refused_number}
 use Rattle.tables.proofs.Verdicts.{judge_pass}
 
 -- past the other refusals the two starts are judged
 pub ends_judged : (g : Grid) (starts : List ℕ) (entries t class : ℕ) → bad_sizes g ≡ false → bad_starts g starts ≡ false → bad_run g t class ≡ false
     → (a e : ℕ) → a ≡ run_start starts (run_no t class) → e ≡ run_end starts (run_no t class)
-    → unless (judge (bad_ends entries a e) Damage pass) paper (paper_ends (At a e)) ≡ run_ends g starts entries t class
+    → unless (judge (bad_ends entries a e) Damage pass) paper (paper_ends (Ok (record { begin = a; past = e }))) ≡ run_ends g starts entries t class
 unfolding run_ends run_verdict
 ends_judged g starts entries t class sizes lengths place a e ea ee = rw (sizes, lengths, place, ea, ee)
 
@@ -39,7 +39,7 @@ run_there g starts t class h k =
     omega arith
 
 -- ends that are told passed every judge
-pub told_at : (v : Verdict) (x y a e : ℕ) → paper_ends (At a e) ≡ unless v paper (paper_ends (At x y)) → (v ≡ pass) × (a ≡ x) × (e ≡ y)
+pub told_at : (v : Verdict) (x y a e : ℕ) → paper_ends (Ok (record { begin = a; past = e })) ≡ unless v paper (paper_ends (Ok (record { begin = x; past = y }))) → (v ≡ pass) × (a ≡ x) × (e ≡ y)
 unfolding paper_ends
 told_at pass x y a e h = (
   refl,
@@ -49,7 +49,7 @@ told_at pass x y a e h = (
 told_at (refuse r) x y a e h = clash (ap (λ (p : Paper). eqb p.number 0) h ∙ refused_number r)
 
 -- a refusal that is told is one
-pub told_refused : (v : Verdict) (x y : ℕ) (q : Refusal) → paper q ≡ unless v paper (paper_ends (At x y)) → (r : Refusal) × (v ≡ refuse r)
+pub told_refused : (v : Verdict) (x y : ℕ) (q : Refusal) → paper q ≡ unless v paper (paper_ends (Ok (record { begin = x; past = y }))) → (r : Refusal) × (v ≡ refuse r)
 unfolding paper_ends
 told_refused pass x y q h = clash (sym (ap (λ (p : Paper). eqb p.number 0) h) ∙ refused_number q)
 told_refused (refuse r) x y q h = (r, refl)
@@ -74,7 +74,7 @@ run_good g starts entries t class h =
 -- ---- the part that is handed back
 
 module _ (g : Grid) (starts entries : List ℕ) (t class : ℕ) (ptr : ℕ × ℕ) where
-  module _ (a e : ℕ) (told : paper_ends (At a e) ≡ run_ends g starts (length entries) t class) where
+  module _ (a e : ℕ) (told : paper_ends (Ok (record { begin = a; past = e })) ≡ run_ends g starts (length entries) t class) where
     ends_told : (run_verdict g starts (length entries) t class ≡ pass) × (a ≡ run_start starts (run_no t class)) × (e ≡ run_end starts (run_no t class))
     unfolding run_ends
     ends_told = told_at (run_verdict g starts (length entries) t class) (run_start starts (run_no t class)) (run_end starts (run_no t class)) a e told

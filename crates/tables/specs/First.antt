@@ -1,7 +1,7 @@
 -- The first of a list. Assumes nothing.
-use Rattle.std.specs.Prelude.{List, [], ◌∷◌, ℕ}
+use Rattle.std.specs.Prelude.{List, [], ◌∷◌, ℕ, Option, Some, None}
 
--- the first number of a list, or another where it has none
-abbrev pub first_or : ℕ → List ℕ → ℕ
-first_or d [] = d
-first_or d (i ∷ l) = i
+-- the first number of a list, if it has one
+abbrev pub first_of : List ℕ → Option ℕ
+first_of [] = None
+first_of (i ∷ l) = Some i

@@ -3,63 +3,60 @@
 ghost use Rattle.std.specs.Prelude.{◌≡◌, [], ◌<◌};
 ghost use Rattle.rules.specs.Register.{count as count_is, rectangle, bad_footprint, bad_footprints};
 ghost use Rattle.rules.specs.Tables.{tables, bad_lengths};
-ghost use Rattle.tables.specs.First.{first_or};
+ghost use Rattle.tables.specs.First.{first_of};
 
+use numbers::Form;
 use rules::{Grid, Rect, Span};
 
 // How many footprints a register has.
-pub fn count(reg: &[u32]) -> usize
-    ensures { result ≡ count_is reg.now }
+#[tactic(auto, unfolding(rules::specs::Register::count))]
+pub fn count<F: Form>(reg: &[F]) -> usize
+    ensures { result ≡ count_is (F.numbers reg.now) }
 {
-    numbers::count(reg) / 4
+    F::count(reg) / 4
 }
 
 // Whether the register or the starts have a wrong length.
-pub fn bad_lengths(g: Grid, reg: &[u32], starts: &[u32]) -> bool
-    ensures { result ≡ bad_lengths g (tables reg.now starts.now []) }
+#[tactic(auto, unfolding(rules::specs::Tables::bad_lengths, rules::specs::Tables::bad_starts, rules::specs::Register::bad_register, rules::specs::Register::count))]
+pub fn bad_lengths<F: Form>(g: Grid, reg: &[F], starts: &[F]) -> bool
+    ensures { result ≡ bad_lengths g (tables (F.numbers reg.now) (F.numbers starts.now) []) }
 {
-    if crate::wrong_register(numbers::count(reg)) {
-        return true;
-    }
-    crate::wrong_starts(g, numbers::count(starts))
+    crate::wrong_register(F::count(reg)) || crate::wrong_starts(g, F::count(starts))
 }
 
 // The rectangle of footprint i.
-pub fn footprint(g: Grid, reg: &[u32], i: usize) -> Rect
-    requires { i < count_is reg.now }
-    ensures { result ≡ rectangle g reg.now i }
+pub fn footprint<F: Form>(g: Grid, reg: &[F], i: usize) -> Rect
+    requires { i < count_is (F.numbers reg.now) }
+    ensures { result ≡ rectangle g (F.numbers reg.now) i }
 {
     Rect {
         x: Span {
-            lo: numbers::get(reg, 4 * i),
-            hi: numbers::get(reg, 4 * i + 2),
+            lo: F::get(reg, 4 * i),
+            hi: F::get(reg, 4 * i + 2),
         },
         y: Span {
-            lo: numbers::get(reg, 4 * i + 1),
-            hi: numbers::get(reg, 4 * i + 3),
+            lo: F::get(reg, 4 * i + 1),
+            hi: F::get(reg, 4 * i + 3),
         },
     }
 }
 
 // Whether footprint i meets refusal 3.
-pub fn bad_footprint(g: Grid, reg: &[u32], i: usize) -> bool
-    requires { i < count_is reg.now }
-    ensures { result ≡ bad_footprint g reg.now i }
+pub fn bad_footprint<F: Form>(g: Grid, reg: &[F], i: usize) -> bool
+    requires { i < count_is (F.numbers reg.now) }
+    ensures { result ≡ bad_footprint g (F.numbers reg.now) i }
 {
     crate::bad_rect(g, footprint(g, reg, i))
 }
 
-// The lowest footprint that meets refusal 3, or the count where none does.
-pub fn first_bad(g: Grid, reg: &[u32]) -> usize
-    ensures { result ≡ first_or (count_is reg.now) (bad_footprints g reg.now) }
+// The lowest footprint that meets refusal 3, if one does.
+pub fn first_bad<F: Form>(g: Grid, reg: &[F]) -> Option<usize>
+    ensures { result ≡ first_of (bad_footprints g (F.numbers reg.now)) }
 {
-    let all = count(reg);
-    let mut i = 0;
-    while i < all {
+    for i in 0..count(reg) {
         if bad_footprint(g, reg, i) {
-            return i;
+            return Some(i);
         }
-        i += 1;
     }
-    i
+    None
 }

@@ -1,179 +1,138 @@
 // Numbers and tables from an input, as standard input, in whatever pieces it comes.
-ghost use Rattle.std.specs.Prelude.{◌≡◌, ◌≤◌, length, IfOk, OnErr, slice_index};
+ghost use Rattle.std.specs.Prelude.{◌≡◌, ◌≤◌, ◌↔◌, length, IsTrue, IfSome, IfOk, OnErr};
 ghost use Rattle.vectors.specs.Decimal.{pushed};
 
+use crate::Number;
 use std::io;
 use std::io::Read;
-
-// Where the reading stands: how many bytes of the buffer are read, how many it holds, and whether the input is open.
-pub type Place = [usize; 3];
-
-const READ: usize = 0;
-
-const HELD: usize = 1;
-
-const STATE: usize = 2;
-
-// Numbers may come; the input ended where one would begin; what came is no number that is asked for.
-const OPEN: usize = 0;
-
-const OVER: usize = 1;
-
-pub const BROKEN: usize = 2;
 
 // How many bytes a number has at most, zeros in front of it included.
 const LONGEST: u64 = 4294967296;
 
-const MOST_WORD: u64 = 4294967295;
-
-pub const MOST_LONG: u64 = 18446744073709551615;
-
-#[derive(Clone, Copy)]
-enum Step {
-    Byte(u8),
-    End,
+// Numbers may come; the input ended where one would begin; what came is no number that is asked for.
+#[derive(Clone, Copy, PartialEq, Eq)]
+pub enum State {
+    Open,
+    Over,
+    Broken,
 }
 
-// A number with one digit more.
-#[derive(Clone, Copy)]
-pub enum Pushed {
-    Longer(u64),
-    Bad,
+// An input, the lent buffer that its pieces come in, how many bytes of the piece there are read and how many it has, and whether more may come.
+#[derive(Drop)]
+pub struct Reader<'a, R> {
+    input: &'a mut R,
+    buffer: &'a mut [u8],
+    read: usize,
+    held: usize,
+    state: State,
 }
 
-pub fn is_open(place: Place) -> bool {
-    place[STATE] == OPEN
-}
-
-pub fn is_over(place: Place) -> bool {
-    place[STATE] == OVER
-}
-
-// Ends the reading; what is read from then on is 0.
-pub fn shut(place: &mut Place, state: usize) -> u64
-    ensures { result ≡ 0 }
-{
-    place[STATE] = state;
-    0
-}
-
-// The next byte: from the buffer, or from the input's next piece. The state stays, and a read that fails leaves the place as it was.
-fn next_byte<R: Read>(input: &mut R, buffer: &mut [u8], place: &mut Place) -> io::Result<Step>
-    ensures state { slice_index place.new 2 ≡ slice_index place.old 2 }
-    ensures err { OnErr result (place.new ≡ place.old) }
-{
-    let at = place[READ];
-    if at < place[HELD] {
-        if at < buffer.len() {
-            place[READ] = at + 1;
-            return Ok(Step::Byte(buffer[at]));
+impl<'a, R: Read> Reader<'a, R> {
+    pub fn new(input: &'a mut R, buffer: &'a mut [u8]) -> Self
+        ensures { result.state ≡ State.Open }
+    {
+        Reader {
+            input,
+            buffer,
+            read: 0,
+            held: 0,
+            state: State::Open,
         }
     }
-    let held = input.read(buffer)?;
-    if held == 0 {
-        return Ok(Step::End);
-    }
-    place[READ] = 1;
-    place[HELD] = held;
-    Ok(Step::Byte(buffer[0]))
-}
 
-// A digit behind a number, where it is one and the number stays within most.
-fn push(value: u64, byte: u8, most: u64) -> Pushed
-    ensures { result ≡ pushed value byte most }
-{
-    if byte < 48 {
-        return Pushed::Bad;
+    pub fn is_open(&self) -> bool
+        ensures { IsTrue result ↔ self.now.state ≡ State.Open }
+    {
+        self.state == State::Open
     }
-    if 57 < byte {
-        return Pushed::Bad;
-    }
-    let digit = (byte - 48) as u64;
-    if most < digit {
-        return Pushed::Bad;
-    }
-    if (most - digit) / 10 < value {
-        return Pushed::Bad;
-    }
-    Pushed::Longer(10 * value + digit)
-}
 
-// The next number, which is at most most: digits, then LF. Else the reading ends. A read that fails loses the digits before it and
-// leaves the reading open.
-pub fn next_number<R: Read>(
-    input: &mut R,
-    buffer: &mut [u8],
-    place: &mut Place,
-    most: u64,
-) -> io::Result<u64>
-    ensures most { IfOk result (λ r. r ≤ most) }
-    ensures err { OnErr result (slice_index place.new 2 ≡ 0) }
-{
-    if place[STATE] != OPEN {
-        return Ok(shut(place, BROKEN));
+    pub fn is_over(&self) -> bool
+        ensures { IsTrue result ↔ self.now.state ≡ State.Over }
+    {
+        self.state == State::Over
     }
-    let mut value = 0;
-    let mut begun = false;
-    for _ in 0..LONGEST {
-        let Step::Byte(byte) = next_byte(input, buffer, place)? else {
-            if begun {
-                return Ok(shut(place, BROKEN));
+
+    // Ends the reading; what is read from then on is 0.
+    pub fn shut(&mut self, state: State) -> u64
+        ensures zero { result ≡ 0 }
+        ensures state { self.new.state ≡ state }
+    {
+        self.state = state;
+        0
+    }
+
+    // The next byte: from the buffer, or from the input's next piece. The state stays, and a read that fails leaves the place as it was.
+    fn next_byte(&mut self) -> io::Result<Option<u8>>
+        ensures state { self.new.state ≡ self.old.state }
+        ensures err { OnErr result ((self.new.read ≡ self.old.read) × (self.new.held ≡ self.old.held)) }
+    {
+        if self.held <= self.read {
+            self.held = self.input.read(self.buffer)?;
+            self.read = 0;
+            if self.held == 0 {
+                return Ok(None);
             }
-            return Ok(shut(place, OVER));
-        };
-        if byte == 10 {
-            if begun {
-                return Ok(value);
-            }
-            return Ok(shut(place, BROKEN));
         }
-        let Pushed::Longer(longer) = push(value, byte, most) else {
-            return Ok(shut(place, BROKEN));
-        };
-        value = longer;
-        begun = true;
+        let at = self.read;
+        self.read += 1;
+        Ok(self.buffer.get(at).copied())
     }
-    Ok(shut(place, BROKEN))
+
+    // The next number, which is at most most: digits, then LF. Else the reading ends. A read that fails loses the digits before it and
+    // leaves the reading open.
+    pub fn next_number(&mut self, most: u64) -> io::Result<u64>
+        ensures most { IfOk result (λ r. r ≤ most) }
+        ensures err { OnErr result (self.new.state ≡ State.Open) }
+    {
+        if !self.is_open() {
+            return Ok(self.shut(State::Broken));
+        }
+        let mut number = None;
+        for _ in 0..LONGEST {
+            number = match (number, self.next_byte()?) {
+                (None, None) => return Ok(self.shut(State::Over)),
+                (Some(value), Some(b'\n')) => return Ok(value),
+                (before, Some(byte)) => push(before.unwrap_or(0), byte, most),
+                (Some(_), None) => None,
+            };
+            if number.is_none() {
+                break;
+            }
+        }
+        Ok(self.shut(State::Broken))
+    }
+
+    // The next number of a type. A read that fails leaves the reading open.
+    pub fn next_as<N: Number>(&mut self) -> io::Result<N>
+        ensures most { IfOk result (λ r. N.number r ≤ N.MOST) }
+        ensures err { OnErr result (self.new.state ≡ State.Open) }
+    {
+        Ok(N::narrow(self.next_number(N::MOST)?))
+    }
+
+    // The next table, put at the beginning of memory, which it must fit; its length. A read that fails may leave a part of the table in
+    // memory, and leaves the reading open.
+    pub fn next_table<N: Number>(&mut self, memory: &mut [N]) -> io::Result<usize>
+        ensures within { IfOk result (λ r. r ≤ length memory.new) }
+        ensures err { OnErr result (self.new.state ≡ State.Open) }
+    {
+        let length = self.next_number(memory.len() as u64)? as usize;
+        for place in &mut memory[..length] {
+            *place = self.next_as()?;
+        }
+        Ok(length)
+    }
 }
 
-// The next number of 32 bits. A read that fails leaves the reading open.
-pub fn next_word<R: Read>(input: &mut R, buffer: &mut [u8], place: &mut Place) -> io::Result<u32>
-    ensures { OnErr result (slice_index place.new 2 ≡ 0) }
+// A number with a digit behind it, where the byte is one and the number stays within most.
+#[tactic(auto, unfolding(crate::specs::Decimal::pushed))]
+fn push(value: u64, byte: u8, most: u64) -> Option<u64>
+    ensures pushed { result ≡ pushed value byte most }
+    ensures within { IfSome result (λ r. r ≤ most) }
 {
-    Ok(next_number(input, buffer, place, MOST_WORD)? as u32)
-}
-
-// The next table of 32-bit numbers, put at the beginning of memory, which it must fit; its length. A read that fails may leave a part
-// of the table in memory, and leaves the reading open.
-pub fn next_words<R: Read>(
-    input: &mut R,
-    buffer: &mut [u8],
-    place: &mut Place,
-    memory: &mut [u32],
-) -> io::Result<usize>
-    ensures within { IfOk result (λ r. r ≤ length memory.new) }
-    ensures err { OnErr result (slice_index place.new 2 ≡ 0) }
-{
-    let length = next_number(input, buffer, place, memory.len() as u64)? as usize;
-    for k in 0..length {
-        memory[k] = next_word(input, buffer, place)?;
+    if !byte.is_ascii_digit() {
+        return None;
     }
-    Ok(length)
-}
-
-// The same for 64-bit numbers.
-pub fn next_longs<R: Read>(
-    input: &mut R,
-    buffer: &mut [u8],
-    place: &mut Place,
-    memory: &mut [u64],
-) -> io::Result<usize>
-    ensures within { IfOk result (λ r. r ≤ length memory.new) }
-    ensures err { OnErr result (slice_index place.new 2 ≡ 0) }
-{
-    let length = next_number(input, buffer, place, memory.len() as u64)? as usize;
-    for k in 0..length {
-        memory[k] = next_number(input, buffer, place, MOST_LONG)?;
-    }
-    Ok(length)
+    let longer = value.checked_mul(10)?.checked_add(u64::from(byte - b'0'))?;
+    (longer <= most).then_some(longer)
 }

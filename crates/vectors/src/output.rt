@@ -1,7 +1,6 @@
-// Numbers and tables to an output, as standard output, gathered in a lent slice; waiting is how many bytes of it are not written yet.
+// Numbers and tables to an output, as standard output, gathered in a lent slice.
 // After a write that fails some of the bytes that waited may be written, and all of them count as waiting still.
-ghost use Rattle.std.specs.Prelude.{◌≡◌, ◌≤◌, drop, length, max, OnErr};
-ghost use Rattle.std.specs.Fmt.{decimal};
+ghost use Rattle.std.specs.Prelude.{◌≡◌, ◌<◌, ◌≤◌, [], ◌++◌, length, OnOk, OnErr};
 
 use std::io;
 use std::io::Write;
@@ -9,98 +8,83 @@ use std::io::Write;
 // A decimal of 64 bits and LF.
 const LINE: usize = 21;
 
-// Writes the bytes that wait.
-pub fn flush<W: Write>(output: &mut W, out: &[u8], waiting: usize) -> io::Result<()> {
-    if waiting <= out.len() {
-        output.write_all(&out[..waiting])?;
-    }
-    Ok(())
+// An output, the lent slice that lines for it are gathered in, and how many bytes there wait to be written.
+#[derive(Drop)]
+pub struct Lines<'a, W> {
+    output: &'a mut W,
+    out: &'a mut [u8],
+    waiting: usize,
+    pub ghost within: { waiting ≤ length out.now },
 }
 
-// Whether a line fits behind the bytes that wait.
-fn fits(out: &[u8], waiting: usize) -> bool {
-    if out.len() < LINE {
-        return false;
-    }
-    waiting <= out.len() - LINE
-}
+impl<'a, W: Write> Lines<'a, W> {
+    ghost use Rattle.vectors.specs.Waits.{waits, room, line};
 
-fn put_byte(out: &mut [u8], waiting: &mut usize, byte: u8)
-    ensures { waiting.new ≤ max waiting.old (length out.new) }
-{
-    let at = *waiting;
-    if at < out.len() {
-        out[at] = byte;
-        *waiting = at + 1;
+    pub fn new(output: &'a mut W, out: &'a mut [u8]) -> Self
+        ensures { result.waiting ≡ 0 }
+    {
+        Lines {
+            output,
+            out,
+            waiting: 0,
+        }
     }
-}
 
-// Puts the decimal digits of n at the end of digits, and says where they begin.
-fn put_digits(n: u64, digits: &mut [u8; 20]) -> usize
-    ensures in_bounds { result ≤ 20 }
-    ensures text { drop result digits.new ≡ decimal n }
-{
-    let mut at = 20;
-    let mut rest = n;
-    while 10 <= rest {
-        at -= 1;
-        digits[at] = 48 + (rest % 10) as u8;
-        rest /= 10;
+    // Writes the bytes that wait.
+    pub fn flush(&mut self) -> io::Result<()>
+        ensures ok { OnOk result (waits self.new ≡ []) }
+        ensures err { OnErr result (self.new.waiting ≡ self.old.waiting) }
+        ensures lent { length self.new.out.now ≡ length self.old.out.now }
+    {
+        let waiting = self.waiting;
+        let bytes = &self.out[..waiting];
+        self.output.write_all(bytes)?;
+        self.waiting = 0;
+        Ok(())
     }
-    digits[at - 1] = 48 + rest as u8;
-    at - 1
-}
 
-// A number, and LF.
-pub fn put<W: Write>(output: &mut W, out: &mut [u8], waiting: &mut usize, n: u64) -> io::Result<()>
-    ensures within { waiting.new ≤ max waiting.old (length out.new) }
-    ensures err { OnErr result (waiting.new ≡ waiting.old) }
-{
-    if !fits(out, *waiting) {
-        flush(output, out, *waiting)?;
-        *waiting = 0;
+    // How many bytes fit behind those that wait.
+    fn room(&self) -> usize
+        ensures { result ≡ room self.now }
+    {
+        self.out.len() - self.waiting
     }
-    let mut digits = [0u8; 20];
-    let begin = put_digits(n, &mut digits);
-    put_all(out, waiting, &digits[begin..]);
-    put_byte(out, waiting, 10);
-    Ok(())
-}
 
-fn put_all(out: &mut [u8], waiting: &mut usize, bytes: &[u8])
-    ensures { waiting.new ≤ max waiting.old (length out.new) }
-{
-    for byte in bytes {
-        put_byte(out, waiting, *byte);
+    // Bytes behind those that wait, as many as fit.
+    fn gather(&mut self, bytes: &[u8])
+        ensures text { length bytes.now ≤ room self.old → waits self.new ≡ waits self.old ++ bytes.now }
+        ensures lent { length self.new.out.now ≡ length self.old.out.now }
+    {
+        let waiting = self.waiting;
+        let count = self.room().min(bytes.len());
+        let out = &mut *self.out;
+        out[waiting..waiting + count].copy_from_slice(&bytes[..count]);
+        self.waiting = waiting + count;
     }
-}
 
-// The numbers of a table, each of 32 bits. Also where a write fails, no more waits than the slice holds, or than waited before.
-pub fn put_words<W: Write>(
-    output: &mut W,
-    out: &mut [u8],
-    waiting: &mut usize,
-    table: &[u32],
-) -> io::Result<()>
-    ensures { waiting.new ≤ max waiting.old (length out.new) }
-{
-    for word in table {
-        put(output, out, waiting, *word as u64)?;
+    // A number, and LF.
+    pub fn put(&mut self, n: u64) -> io::Result<()>
+        ensures behind { OnOk result (21 ≤ room self.old → waits self.new ≡ waits self.old ++ line n) }
+        ensures afresh { OnOk result (room self.old < 21 → 21 ≤ length self.old.out.now → waits self.new ≡ line n) }
+        ensures err { OnErr result (self.new.waiting ≡ self.old.waiting) }
+        ensures lent { length self.new.out.now ≡ length self.old.out.now }
+    {
+        if self.room() < LINE {
+            self.flush()?;
+        }
+        let mut digits = itoa::Buffer::new();
+        self.gather(digits.format(n).as_bytes());
+        self.gather(b"\n");
+        Ok(())
     }
-    Ok(())
-}
 
-// The same, each of 64 bits.
-pub fn put_longs<W: Write>(
-    output: &mut W,
-    out: &mut [u8],
-    waiting: &mut usize,
-    table: &[u64],
-) -> io::Result<()>
-    ensures { waiting.new ≤ max waiting.old (length out.new) }
-{
-    for long in table {
-        put(output, out, waiting, *long)?;
+    // The numbers of a table. Also where a write fails, no more waits than the slice holds.
+    pub fn put_table<N: Copy + Into<u64>>(&mut self, table: &[N]) -> io::Result<()>
+        ensures { length self.new.out.now ≡ length self.old.out.now }
+    {
+        for n in table {
+            self.put((*n).into())?;
+        }
+        Ok(())
     }
-    Ok(())
 }

@@ -1,14 +1,14 @@
 -- An ask: what it leaves where damage is met and where not, and its refusals in their order. Assumes nothing.
+use Rattle.std.specs.Prelude.{Ok}
 use mathlib.Core.Path.{◌≡◌, refl, sym, ap, ap₂, ◌∙◌}
 use mathlib.Core.Bool.{true, false}
-use mathlib.Core.List.{List, [], ◌++◌, append-nil}
+use mathlib.Core.List.{List, [], ◌++◌}
 use Prim.Native.Nat.{ℕ, ◌-◌, ◌*◌, ◌/◌, ◌≤◌, ◌<◌}
 use native.Mathlib.Omega.{arith}
-use lib.ListN.{length, take, drop, replicate, length-replicate, drop_of_length-le, take-append-drop}
+use lib.ListN.{length, take, drop, replicate, length-replicate, take-append-drop}
 use lib.Seq.{length-take-le}
 use borrow.Author.Tests.{le-ltb, lt-ltb}
 use Rattle.laws.specs.Lists.{over}
-use Rattle.laws.proofs.Stores.{drop_more}
 use Rattle.rules.specs.Sizes.{bad_sizes, bad_point}
 use Rattle.rules.specs.Tables.{Tables, bad_lengths}
 use Rattle.rules.specs.Refusals.{Paper, paper, paper_answer, refuse}
@@ -17,12 +17,11 @@ use Rattle.rules.specs.Walk.{row_numbers, Machine, machine, spoiled, finish, wal
 use Rattle.rules.specs.declared.Grid.{Grid}
 use Rattle.rules.specs.declared.Refusal.{Refusal}
 use Rattle.rules.specs.declared.Refusal.TheVariants.{Sizes, Lengths, Place, Damage, Room}
-use Rattle.rules.specs.declared.Answer.TheVariants.{Done}
 use Rattle.rules.specs.declared.Three.{Three}
 use Rattle.rules.specs.declared.Walk.{Walk}
 use Rattle.rules.specs.declared.Walked.{Walked}
 use Rattle.rules.proofs.Memory.{length_rows}
-use Rattle.walk.specs.Taking.{state, standing, Ran}
+use Rattle.walk.specs.Taking.{state, standing, Runs, Fails}
 use Rattle.walk.specs.Answers.{Says}
 use Rattle.walk.specs.declared.take.At.{At}
 use Rattle.walk.proofs.Adding.{same_rows}
@@ -35,66 +34,56 @@ four a b c d = cc
 
 -- ---- damage
 
-zeroed : (l l' : List ℕ) → l' ≡ take 0 l ++ (replicate (length l - 0) 0 ++ drop (length l) l) → l' ≡ replicate (length l) 0
-zeroed l l' e =
-    let n : length l - 0 ≡ length l = omega arith in
-    e ∙ rw (drop_of_length-le l {i = length l} (omega arith), n) (append-nil {A = ℕ} (replicate (length l) 0))
-
-first_zeroed : (k : ℕ) (l l' : List ℕ) → l' ≡ take 0 l ++ (replicate (k - 0) 0 ++ drop k l) → l' ≡ over (replicate k 0) l
-first_zeroed k l l' e =
-    let n : k - 0 ≡ k = omega arith in
-    e ∙ rw (n, length-replicate {A = ℕ} k 0) refl
-
-pub spoils : (w : Walk) (front out front' out' : List ℕ) (j : ℕ)
-    → front' ≡ take 0 front ++ (replicate (length front - 0) 0 ++ drop (length front) front) → out' ≡ take 0 out ++ (replicate (row_numbers * j - 0) 0 ++ drop (row_numbers * j) out)
+pub spoils : (w : Walk) (front out front' zeros : List ℕ) (j : ℕ) → front' ≡ replicate (length front) 0 → zeros ≡ replicate (row_numbers * j) 0
     → (x : Walk) → x ≡ walk_at (walk_point w) 0 true → (r : Walked) → Says r (paper Damage) x
-    → (paper_answer r.answer, r.walk, front', out') ≡ ask_outcome w front j out spoiled
+    → (paper_answer r.answer, r.walk, front', zeros ++ drop (row_numbers * j) out) ≡ ask_outcome w front j out spoiled
 unfolding ask_outcome
-spoils w front out front' out' j ef eo x ex r s = four s.paper (s.walk ∙ ex) (zeroed front front' ef) (first_zeroed (row_numbers * j) out out' eo)
+spoils w front out front' zeros j ef ez x ex r s =
+    let n = length-replicate {A = ℕ} (row_numbers * j) 0 in
+    four s.paper (s.walk ∙ ex) ef (ap₂ (λ (l : List ℕ) (k : ℕ). l ++ drop k out) ez (sym n))
 
 -- ---- rows taken
 
-module _ (g : Grid) (t : Tables) (w : Walk) (front out front₁ front₂ out₂ : List ℕ) (head j : ℕ) (s : At) (l₁ : length front₁ ≡ length front)
+module _ (g : Grid) (t : Tables) (w : Walk) (front out front₁ front₂ out₂ : List ℕ) (head j : ℕ) (l₁ : length front₁ ≡ length front)
     (l₂ : length front₂ ≡ length front₁) (lo : length out₂ ≡ length out) (lifted : drop head (rows front₁) ≡ take w.waiting (rows front))
-    (ran : Ran g t (walk_point w) front₁ out front₂ out₂ head j s) (room : row_numbers * j ≤ length out) where
+    (room : row_numbers * j ≤ length out) where
   abbrev end : Machine
   end = finish g t (walk_point w) (whole_rows front) (machine (take w.waiting (rows front)) [] j false)
 
-  begins : standing front₁ out j (state head 0 false) ≡ machine (take w.waiting (rows front)) [] j false
+  begins : standing front₁ out j (state head 0) ≡ machine (take w.waiting (rows front)) [] j false
   unfolding standing
   begins = let n : j - 0 ≡ j = omega arith in ap₂ (λ (l : List Three) (k : ℕ). machine l [] k false) lifted n
 
-  result : standing front₂ out₂ j s ≡ end
+  -- the machine's end, of a front as long as the lent one
+  ends : finish g t (walk_point w) (length (rows front₁)) (standing front₁ out j (state head 0)) ≡ end
   unfolding whole_rows
-  result = ran.is ∙ ap₂ (finish g t (walk_point w)) (same_rows front₁ front l₁ ∙ length_rows front) begins
+  ends = ap₂ (finish g t (walk_point w)) (same_rows front₁ front l₁ ∙ length_rows front) begins
 
-  pub rows_spoiled : s.bad ≡ true → (front₃ out₃ : List ℕ) (r : Walked)
+  pub rows_spoiled : Fails g t (walk_point w) front₁ out out₂ head j → (front₃ out₃ : List ℕ) (r : Walked)
       → (paper_answer r.answer, r.walk, front₃, out₃) ≡ ask_outcome w front₂ j out₂ spoiled → (paper_answer r.answer, r.walk, front₃, out₃) ≡ ask_outcome w front j out end
-  unfolding ask_outcome standing
-  rows_spoiled b front₃ out₃ r e =
-      let m : spoiled ≡ end = (rw b at result) in
-      let f = ran.few in
-      let d : drop (row_numbers * j) out₂ ≡ drop (row_numbers * j) out = drop_more out₂ out (row_numbers * s.given) (row_numbers * j) (omega arith) ran.behind in
+  unfolding ask_outcome
+  rows_spoiled p front₃ out₃ r e =
+      let m : spoiled ≡ end = p.is ∙ ends in
       let n = length-replicate {A = ℕ} (row_numbers * j) 0 in
       let o : over (replicate (row_numbers * j) 0) out₂ ≡ over (replicate (row_numbers * j) 0) out =
-      ap (λ (k : ℕ). replicate (row_numbers * j) 0 ++ drop k out₂) n ∙ ap (λ (l : List ℕ). replicate (row_numbers * j) 0 ++ l) d
+      ap (λ (k : ℕ). replicate (row_numbers * j) 0 ++ drop k out₂) n ∙ ap (λ (l : List ℕ). replicate (row_numbers * j) 0 ++ l) p.behind
       ∙ ap (λ (k : ℕ). replicate (row_numbers * j) 0 ++ drop k out) (sym n) in
       e ∙ four refl refl (ap (λ (k : ℕ). replicate k 0) (l₂ ∙ l₁)) o ∙ ap (ask_outcome w front j out) m
 
-  pub rows_given : s.bad ≡ false → (front₃ : List ℕ) (n : ℕ) → n ≡ length (drop s.head (rows front₂)) → front₃ ≡ laid (length front₂) (drop s.head (rows front₂))
-      → (x : Walk) → x ≡ walk_at (walk_point w) n false → (r : Walked) → Says r (paper_answer (Done s.given)) x
+  pub rows_given : (s : At) → Runs g t (walk_point w) front₁ out front₂ out₂ head j s → (front₃ : List ℕ) (n : ℕ) → n ≡ length (drop s.head (rows front₂)) → front₃ ≡ laid (length front₂) (drop s.head (rows front₂))
+      → (x : Walk) → x ≡ walk_at (walk_point w) n false → (r : Walked) → Says r (paper_answer (Ok s.given)) x
       → (paper_answer r.answer, r.walk, front₃, out₂) ≡ ask_outcome w front j out end
   unfolding ask_outcome
-  rows_given b front₃ n en ef x ex r y =
+  rows_given s ran front₃ n en ef x ex r y =
       let f = ran.few in
       let k = row_numbers * s.given in
       let h : s.given ≡ j - (j - s.given) = omega arith in
       let l : length (take k out₂) ≡ k = length-take-le k out₂ (omega arith) in
       let o : out₂ ≡ over (take k out₂) out =
       sym (take-append-drop k out₂) ∙ ap (λ (m : List ℕ). take k out₂ ++ m) (ran.behind ∙ ap (λ (i : ℕ). drop i out) (sym l)) in
-      four (y.paper ∙ ap (λ (i : ℕ). paper_answer (Done i)) h) (y.walk ∙ ex ∙ ap (λ (i : ℕ). walk_at (walk_point w) i false) en)
+      four (y.paper ∙ ap (λ (i : ℕ). paper_answer (Ok i)) h) (y.walk ∙ ex ∙ ap (λ (i : ℕ). walk_at (walk_point w) i false) en)
       (ef ∙ ap (λ (i : ℕ). laid i (drop s.head (rows front₂))) (l₂ ∙ l₁)) o
-      ∙ ap (ask_outcome w front j out) (sym (standing_fine front₂ out₂ j s b) ∙ result)
+      ∙ ap (ask_outcome w front j out) (sym (standing_fine front₂ out₂ j s) ∙ ran.is ∙ ends)
 
 -- ---- refusals 1, 2, 4, 6, and damage before any row is taken
 

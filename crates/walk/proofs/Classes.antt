@@ -1,4 +1,5 @@
 -- The runs of a tile whose classes a mask allows: from a class on, all judged, all brought. Assumes nothing.
+use Rattle.std.specs.Prelude.{Option}
 use mathlib.Core.Path.{◌≡◌, refl, sym, ap, ap₂, ◌∙◌}
 use mathlib.Core.Bool.{Bool, true, false, not, ◌&&◌, ◌||◌}
 use mathlib.Core.List.{List, [], ◌∷◌, ◌++◌, map, map-append}
@@ -8,7 +9,7 @@ use lib.Dec.{leb}
 use lib.ListN.{length, length-append}
 use borrow.Author.Tests.{le-leb, lt-leb}
 use Rattle.laws.specs.Lists.{keep, filter, from, each}
-use Rattle.laws.proofs.Tests.{clash, fst_true, snd_true}
+use Rattle.laws.proofs.Tests.{fst_true, snd_true}
 use Rattle.laws.proofs.Lists.{each_append}
 use Rattle.laws.proofs.Ranges.{filter_from}
 use Rattle.rules.specs.Sizes.{most_entries, tile_count}
@@ -23,8 +24,7 @@ use Rattle.rules.specs.declared.Three.{Three}
 use Rattle.grid.specs.Places.{is_on}
 use Rattle.rules.proofs.Good.{good_runs_append}
 use Rattle.walk.specs.Fill.{Got, lost, add_all, brought}
-use Rattle.walk.specs.Reading.{entry_rows, run_rows, Allows, tally, Judged}
-use Rattle.walk.specs.declared.tile.Tally.{Tally}
+use Rattle.walk.specs.Reading.{entry_rows, run_rows, Allows, Counted, Judged}
 
 -- ---- the runs of a tile
 
@@ -78,13 +78,13 @@ module _ (g : Grid) (t : Tables) where
       ∙ ap (map (waiting_row g t.reg q)) (map-append Footprint (each (run_at t) ks) (each (run_at t) ms))
       ∙ map-append (waiting_row g t.reg q) (map Footprint (each (run_at t) ks)) (map Footprint (each (run_at t) ms))
 
-  pub judged_as_law : (ks ms : List ℕ) (many : ℕ) (r : Tally) → Judged g t ks many r → ks ≡ ms → Judged g t ms many r
+  pub judged_as_law : (ks ms : List ℕ) (many : ℕ) (r : Option ℕ) → Judged g t ks many r → ks ≡ ms → Judged g t ms many r
   judged_as_law ks ms many r j e = rw e at j
 
   -- a class that is not allowed
-  pub judged_none : Judged g t [] 1 (tally 0 false)
+  pub counted_none : Counted g t [] 1 0
   unfolding good_runs
-  judged_none = record { said = refl; counted = λ x. refl; few = omega arith }
+  counted_none = record { good = refl; counts = refl; few = omega arith }
 
   module _ (tile mask : ℕ) where
     abbrev left : ℕ → List ℕ
@@ -108,42 +108,31 @@ module _ (g : Grid) (t : Tables) where
     pub count_all : Counting 0 0
     count_all = record { most = omega arith; still = refl; counts = omega arith; few = omega arith }
 
-    module _ (count class : ℕ) (h : class < 16) (p : Counting count class) (r : Tally) (j : Judged g t (one class) 1 r) where
+    module _ (count class : ℕ) (h : class < 16) (p : Counting count class) where
       good_next : good_runs g t (left 0) ≡ (good_runs g t (one class) && good_runs g t (left (class + 1)))
       good_next = sym p.still ∙ ap (good_runs g t) (runs_next tile mask class h) ∙ good_runs_append g t (one class) (left (class + 1))
 
-      this : (b : Bool) → r.bad ≡ b → good_runs g t (one class) ≡ not b
-      this b e = turned (good_runs g t (one class)) b (sym e ∙ j.said)
-        where
-          turned : (x y : Bool) → y ≡ not x → x ≡ not y
-          turned true y f = ap not (sym f)
-          turned false y f = ap not (sym f)
+      pub count_bad : good_runs g t (one class) ≡ false → good_runs g t (left 0) ≡ false
+      count_bad e = good_next ∙ ap (λ (b : Bool). b && good_runs g t (left (class + 1))) e
 
-      pub count_bad : r.bad ≡ true → Judged g t (left 0) 16 r
-      count_bad e = record {
-        said = e ∙ ap not (sym (good_next ∙ ap (λ (b : Bool). b && good_runs g t (left (class + 1))) (this true e)));
-        counted = λ x. clash (sym e ∙ x);
-        few = omega (arith, j.few);
-      }
-
-      pub count_on : r.bad ≡ false → Counting (count + r.count) (class + 1)
-      count_on e =
-          let f = j.counted e in
+      pub count_on : (n : ℕ) → Counted g t (one class) 1 n → Counting (count + n) (class + 1)
+      count_on n j =
+          let f = j.counts in
           let a : entries_of (left class) ≡ entries_of (one class) + entries_of (left (class + 1)) =
           ap entries_of (runs_next tile mask class h) ∙ ap length (each_append (run_at t) (one class) (left (class + 1)))
           ∙ length-append (each (run_at t) (one class)) (each (run_at t) (left (class + 1))) in
           record {
             most = omega arith;
-            still = sym (good_next ∙ ap (λ (x : Bool). x && good_runs g t (left (class + 1))) (this false e));
+            still = sym (good_next ∙ ap (λ (x : Bool). x && good_runs g t (left (class + 1))) j.good);
             counts = omega (arith, p.counts);
             few = omega (arith, p.few, j.few);
           }
 
-    pub count_end : (count class : ℕ) → Counting count class → 16 ≤ class → Judged g t (left 0) 16 (tally count false)
+    pub count_end : (count class : ℕ) → Counting count class → 16 ≤ class → Counted g t (left 0) 16 count
     unfolding good_runs
     count_end count class p h = record {
-      said = ap not (sym (sym p.still ∙ ap (good_runs g t) (runs_none tile mask class h)));
-      counted = λ x. omega (arith, p.counts, ap entries_of (runs_none tile mask class h));
+      good = sym p.still ∙ ap (good_runs g t) (runs_none tile mask class h);
+      counts = omega (arith, p.counts, ap entries_of (runs_none tile mask class h));
       few = omega (arith, p.few, p.most);
     }
 
@@ -167,12 +156,12 @@ module _ (g : Grid) (t : Tables) where
     pub tile_lost : (new : List Three) → tile_count g ≤ tile → lost ≡ brought got (leb (tile_count g) tile || not (good_runs g t (allowed_runs g q tile))) new
     tile_lost new h = rw (le-leb (tile_count g) tile h) refl
 
-    pub tile_bad : (new : List Three) → tile < tile_count g → true ≡ not (good_runs g t (allowed_runs g q tile))
+    pub tile_bad : (new : List Three) → tile < tile_count g → good_runs g t (allowed_runs g q tile) ≡ false
         → lost ≡ brought got (leb (tile_count g) tile || not (good_runs g t (allowed_runs g q tile))) new
-    tile_bad new h e = rw (lt-leb (tile_count g) tile h, ← e) refl
+    tile_bad new h e = rw (lt-leb (tile_count g) tile h, e) refl
 
-    pub tile_fine : tile < tile_count g → false ≡ not (good_runs g t (allowed_runs g q tile))
+    pub tile_fine : tile < tile_count g → good_runs g t (allowed_runs g q tile) ≡ true
         → add_all got (run_rows g t q (allowed_runs g q tile))
         ≡ brought got (leb (tile_count g) tile || not (good_runs g t (allowed_runs g q tile))) (map (waiting_row g t.reg q) (tile_brings g t q tile))
     unfolding tile_brings
-    tile_fine h e = rw (lt-leb (tile_count g) tile h, ← e) refl
+    tile_fine h e = rw (lt-leb (tile_count g) tile h, e) refl

@@ -1,22 +1,32 @@
 -- One run: judged and counted, and what it brings where it shows no damage. Assumes nothing.
 use mathlib.Core.Path.{◌≡◌, refl, sym, ap, ◌∙◌}
 use mathlib.Core.Bool.{Bool, true, false, not, ◌&&◌, ◌||◌}
-use mathlib.Core.List.{[], ◌∷◌, append-nil}
+use mathlib.Core.List.{List, [], ◌∷◌, append-nil}
 use Prim.Native.Nat.{ℕ, ◌+◌, ◌-◌, ◌*◌, ◌≤◌, ◌<◌}
 use native.Mathlib.Omega.{arith}
 use lib.Dec.{eqb, ltb}
 use lib.ListN.{length, length-drop}
 use lib.Seq.{length-take-le}
 use borrow.Author.Tests.{eqb-true, ltb-false, not-false}
-use Rattle.laws.specs.Lists.{part}
-use Rattle.laws.proofs.Tests.{clash, by_bool, neither, not_not, fst_true, snd_true}
+use Rattle.std.specs.List.{list_any}
+use Rattle.laws.specs.Lists.{part, all}
+use Rattle.laws.proofs.Tests.{neither, not_not, fst_true, snd_true}
 use Rattle.rules.specs.Sizes.{most_entries, tile_count}
 use Rattle.rules.specs.Register.{bad_register}
 use Rattle.rules.specs.Tables.{Tables, runs, bad_starts, bad_lengths, run_start, run_end, run_at, bad_ends, good_run, good_runs}
 use Rattle.rules.specs.declared.Grid.{Grid}
 use Rattle.rules.specs.declared.Point.{Point}
 use Rattle.tables.proofs.Runs.{good_ends}
-use Rattle.walk.specs.Reading.{good_entries, entry_rows, run_rows, tally, Judged}
+use Rattle.walk.specs.Reading.{good_entries, entry_rows, run_rows, Counted}
+
+not_either : (a b c : Bool) → b ≡ not c → (a || b) ≡ not (not a && c)
+not_either true b c e = refl
+not_either false b c e = e
+
+-- one is bad where not all are good
+pub any_bad : (p : ℕ → Bool) (l : List ℕ) → list_any p l ≡ not (all (λ i. not (p i)) l)
+any_bad p [] = refl
+any_bad p (i ∷ l) = not_either (p i) _ _ (any_bad p l)
 
 -- the starts of a class in a tile, and the next, stand in the table
 pub starts_stand : (g : Grid) (t : Tables) → bad_lengths g t ≡ false → (tile class : ℕ) → tile < tile_count g → class < 16
@@ -33,17 +43,11 @@ module _ (g : Grid) (t : Tables) where
     unfolding good_runs good_run run_at
     one_good b d f h = rw (← ea, ← ee, f, h) refl
 
-    pub run_ends_bad : bad_ends (length t.entries) a e ≡ true → Judged g t (k ∷ []) 1 (tally 0 true)
-    run_ends_bad f = record {
-      said = ap not (sym (one_good true (good_entries g t.reg (part t.entries a e)) f refl));
-      counted = λ x. clash x;
-      few = omega arith;
-    }
+    pub run_ends_bad : bad_ends (length t.entries) a e ≡ true → good_runs g t (k ∷ []) ≡ false
+    run_ends_bad f = one_good true (good_entries g t.reg (part t.entries a e)) f refl
 
-    pub run_part_bad : bad_ends (length t.entries) a e ≡ false → true ≡ not (good_entries g t.reg (part t.entries a e)) → Judged g t (k ∷ []) 1 (tally 0 true)
-    run_part_bad f h = by_bool (good_entries g t.reg (part t.entries a e))
-        (λ y. clash (h ∙ ap not y))
-        (λ y. record { said = ap not (sym (one_good false false f y)); counted = λ x. clash x; few = omega arith })
+    pub run_part_bad : bad_ends (length t.entries) a e ≡ false → good_entries g t.reg (part t.entries a e) ≡ false → good_runs g t (k ∷ []) ≡ false
+    run_part_bad f h = one_good false false f h
 
     run_length : bad_ends (length t.entries) a e ≡ false → length (part t.entries a e) ≡ e - a
     run_length f =
@@ -55,29 +59,24 @@ module _ (g : Grid) (t : Tables) where
     unfolding bad_ends
     run_most f = ltb-false most_entries e (neither (ltb e a || ltb (length t.entries) e) (ltb most_entries e) f).1
 
-    pub run_fine : bad_ends (length t.entries) a e ≡ false → false ≡ not (good_entries g t.reg (part t.entries a e)) → Judged g t (k ∷ []) 1 (tally (e - a) false)
+    pub run_fine : bad_ends (length t.entries) a e ≡ false → good_entries g t.reg (part t.entries a e) ≡ true → Counted g t (k ∷ []) 1 (e - a)
     unfolding run_at
     run_fine f h = record {
-      said = ap not (sym (one_good false true f (not-false _ (sym h))));
-      counted = λ x. sym (run_length f) ∙ rw (ea, ee) (sym (ap length (append-nil (part t.entries (run_start t.starts k) (run_end t.starts k)))));
+      good = one_good false true f h;
+      counts = sym (run_length f) ∙ rw (ea, ee) (sym (ap length (append-nil (part t.entries (run_start t.starts k) (run_end t.starts k)))));
       few = let m = run_most f in omega arith;
     }
 
-  -- a class that is not allowed
-  pub run_none : Judged g t [] 1 (tally 0 false)
-  unfolding good_runs
-  run_none = record { said = refl; counted = λ x. refl; few = omega arith }
-
   -- a run without damage: its ends lie among the entries, and its entries may be named
   pub run_good : (k a e : ℕ) → a ≡ run_start t.starts k → e ≡ run_end t.starts k → good_runs g t (k ∷ []) ≡ true
-      → (e ≤ length t.entries) × (good_entries g t.reg (part t.entries a e) ≡ true)
+      → (a ≤ e) × (e ≤ length t.entries) × (good_entries g t.reg (part t.entries a e) ≡ true)
   unfolding good_runs good_run run_at
   run_good k a e ea ee h =
       let f = fst_true _ true h in
       let x = fst_true (not (bad_ends (length t.entries) (run_start t.starts k) (run_end t.starts k))) _ f in
       let y = snd_true (not (bad_ends (length t.entries) (run_start t.starts k) (run_end t.starts k))) _ f in
       let m = good_ends (length t.entries) (run_start t.starts k) (run_end t.starts k) (not_not _ x) in
-      (rw ee m.1, rw (ea, ee) y)
+      (rw (ea, ee) m.0, rw ee m.1, rw (ea, ee) y)
 
   pub one_run_law : (q : Point) (k a e : ℕ) → a ≡ run_start t.starts k → e ≡ run_end t.starts k
       → entry_rows g t.reg q (part t.entries a e) ≡ run_rows g t q (k ∷ [])

@@ -10,3 +10,4 @@ pub mod Weighing
 pub mod Runs
 pub mod Starting
 pub mod Asking
+pub mod Readiness

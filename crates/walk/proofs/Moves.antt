@@ -17,18 +17,14 @@ use Rattle.rules.specs.declared.Grid.{Grid}
 use Rattle.rules.specs.declared.Point.{Point}
 use Rattle.rules.specs.declared.Item.TheVariants.{Footprint}
 use Rattle.rules.specs.declared.Three.{Three}
-use Rattle.walk.specs.Fill.{fill, Got, lost, kept, add_all, brought, waits, stands, Safe, Filled}
-use Rattle.walk.specs.Taking.{state, standing, got_machine, Closed, Moved}
+use Rattle.walk.specs.Fill.{fill, Got, lost, kept, add_all, brought, waits, stands, Held}
+use Rattle.walk.specs.Taking.{state, standing, got_machine, Moves, Breaks}
 use Rattle.walk.specs.declared.batch.Fill.{Fill}
 use Rattle.walk.specs.declared.take.At.{At}
 use Rattle.walk.proofs.Adding.{merged_none}
+use Rattle.walk.proofs.Bringing.{add_all_lost}
 
 -- ---- all rows of an opening, with room or without
-
-add_all_lost : (new : List Three) → add_all lost new ≡ lost
-unfolding add_all
-add_all_lost [] = refl
-add_all_lost (t ∷ new) = add_all_lost new
 
 pub add_all_fits : (r : ℕ) (l new : List Three) → length new ≤ r → add_all (kept r l) new ≡ kept (r - length new) (insert_all new l)
 unfolding add_all
@@ -51,44 +47,43 @@ after_brought whole room w o j false new e =
     (λ h. rw (le-leb (length w + length new) whole (omega arith)) (ap (λ (g : Got). got_machine g o (suc j)) (add_all_fits room w new h)))
     (λ h. rw (lt-leb (length w + length new) whole (omega arith)) (ap (λ (g : Got). got_machine g o (suc j)) (add_all_not room w new h)))
 
--- ---- an opening is closed
-
-module _ (front batch : List ℕ) (given : ℕ) (f : Fill) where
-  pub close_bad : Safe front batch f → f.bad ≡ true → Closed front batch front given f (state f.head given true)
-  unfolding standing stands
-  close_bad s e = record { inside = s.inside; same = refl; is = λ out j. rw e refl }
-
-  pub close_fine : f.bad ≡ false → (front' : List ℕ) (to : ℕ) → to ≤ length (rows front') → drop to (rows front') ≡ waits front batch f.head f.count
-      → Closed front batch front' given f (state to given false)
-  unfolding standing stands
-  close_fine e front' to le w = record {
-    inside = le;
-    same = refl;
-    is = λ out j. rw e (ap (λ (l : List Three). machine l (take (row_numbers * given) out) (j - given) false) w);
-  }
-
 -- ---- a group or a tile is opened
 
-module _ (front batch front₁ batch₁ front₂ : List ℕ) (s r : At) (f : Fill) (b : Bool) (new : List Three) (lt : s.head < length (rows front))
-    (p : Filled front₁ batch₁ f (brought (stands front batch (fill (s.head + 1) 0 false)) b new)) (cl : Closed front₁ batch₁ front₂ s.given f r) where
-  before_open : stands front batch (fill (s.head + 1) 0 false) ≡ kept (s.head + 1) (drop (s.head + 1) (rows front))
+module _ (front batch : List ℕ) (s : At) (b : Bool) (new : List Three) (lt : s.head < length (rows front)) (m : Move) (em : damage_if b (bring new) ≡ m) where
+  before_open : stands front batch (fill (s.head + 1) 0) ≡ kept (s.head + 1) (drop (s.head + 1) (rows front))
   unfolding stands waits
   before_open = ap₂ kept (omega arith) (merged_none (drop (s.head + 1) (rows front)))
 
-  pub opened_moved : (m : Move) → damage_if b (bring new) ≡ m → (out : List ℕ) → Moved m front out front₂ out s r
-  opened_moved m e out = record {
-    inside = cl.inside;
-    more = (omega (arith, cl.same), omega (arith, cl.same));
+  -- what it brings is what the rules say
+  brought_is : (out : List ℕ) (j : ℕ) → s.given < j
+      → got_machine (brought (stands front batch (fill (s.head + 1) 0)) b new) (take (row_numbers * s.given) out) (j - s.given)
+      ≡ after_move (length (rows front)) m (j - s.given - 1) (drop (s.head + 1) (rows front)) (take (row_numbers * s.given) out)
+  brought_is out j k =
+      let d = length-drop (s.head + 1) (rows front) in
+      let w = drop (s.head + 1) (rows front) in
+      let o = take (row_numbers * s.given) out in
+      let n : j - s.given ≡ suc (j - s.given - 1) = omega arith in
+      ap₂ (λ (x : Got) (i : ℕ). got_machine (brought x b new) o i) before_open n
+      ∙ after_brought (length (rows front)) (s.head + 1) w o (j - s.given - 1) b new (omega arith)
+      ∙ ap (λ (x : Move). after_move (length (rows front)) x (j - s.given - 1) w o) em
+
+  pub opened_lost : lost ≡ brought (stands front batch (fill (s.head + 1) 0)) b new → (out : List ℕ) → Breaks m front out out s
+  opened_lost p out = record {
+    same = refl;
+    is = λ j k. ap (λ (x : Got). got_machine x (take (row_numbers * s.given) out) (j - s.given)) p ∙ brought_is out j k;
+  }
+
+  pub opened_moved : (front₁ batch₁ front₂ : List ℕ) (f : Fill) → Held front₁ batch₁ f (brought (stands front batch (fill (s.head + 1) 0)) b new) → (to : ℕ)
+      → to ≤ length (rows front₂) → drop to (rows front₂) ≡ waits front₁ batch₁ f.head f.count → (out : List ℕ) → Moves m front out front₂ out s (state to s.given)
+  unfolding standing stands
+  opened_moved front₁ batch₁ front₂ f p to le w out = record {
+    inside = le;
+    more = (omega arith, omega arith);
     behind = refl;
     is = λ j k.
-        let d = length-drop (s.head + 1) (rows front) in
-        let w = drop (s.head + 1) (rows front) in
-        let o = take (row_numbers * s.given) out in
-        let n : j - s.given ≡ suc (j - s.given - 1) = omega arith in
-        cl.is out j
-        ∙ ap₂ (λ (x : Got) (i : ℕ). got_machine x o i) (p.is ∙ ap (λ (x : Got). brought x b new) before_open) n
-        ∙ after_brought (length (rows front)) (s.head + 1) w o (j - s.given - 1) b new (omega arith)
-        ∙ ap (λ (x : Move). after_move (length (rows front)) x (j - s.given - 1) w o) e;
+        ap (λ (l : List Three). machine l (take (row_numbers * s.given) out) (j - s.given) false) w
+        ∙ ap (λ (x : Got). got_machine x (take (row_numbers * s.given) out) (j - s.given)) p.is
+        ∙ brought_is out j k;
   }
 
 -- ---- a footprint is handed out
@@ -97,16 +92,16 @@ writes_length : (g : Grid) (reg : List ℕ) (q : Point) (i square : ℕ) → len
 unfolding row_writes
 writes_length g reg q i square = refl
 
-module _ (g : Grid) (t : Tables) (q : Point) (square i : ℕ) (front out : List ℕ) (s : At) (lt : s.head < length (rows front)) where
-  pub hand_bad : bad_entry g t.reg i ≡ true → Moved (item_move g t q square (Footprint i)) front out front out s (state s.head s.given true)
-  unfolding item_move standing
-  hand_bad e = record { inside = omega arith; more = (omega arith, omega arith); behind = refl; is = λ j k. rw e refl }
+module _ (g : Grid) (t : Tables) (q : Point) (square i : ℕ) (front out : List ℕ) (s : At) where
+  pub hand_bad : bad_entry g t.reg i ≡ true → Breaks (item_move g t q square (Footprint i)) front out out s
+  unfolding item_move
+  hand_bad e = record { same = refl; is = λ j k. rw e refl }
 
-  pub hand_fine : bad_entry g t.reg i ≡ false → row_numbers * s.given + row_numbers ≤ length out → (out' : List ℕ)
+  pub hand_fine : s.head < length (rows front) → bad_entry g t.reg i ≡ false → row_numbers * s.given + row_numbers ≤ length out → (out' : List ℕ)
       → out' ≡ take (row_numbers * s.given) out ++ (row_writes g t.reg q i square ++ drop (row_numbers * (s.given + 1)) out)
-      → Moved (item_move g t q square (Footprint i)) front out front out' s (state (s.head + 1) (s.given + 1) false)
+      → Moves (item_move g t q square (Footprint i)) front out front out' s (state (s.head + 1) (s.given + 1))
   unfolding item_move standing
-  hand_fine e room out' w =
+  hand_fine lt e room out' w =
       let n = row_numbers * (s.given + 1) in
       let before = take (row_numbers * s.given) out in
       let writes = row_writes g t.reg q i square in

@@ -1,15 +1,13 @@
 -- A row taken in memory is a step of the machine, and rows taken until none is wanted are its end. Assumes nothing.
+use Rattle.std.specs.Prelude.{Option, Some, None}
 use mathlib.Core.Path.{◌≡◌, refl, sym, ap, ap₂, ◌∙◌}
-use mathlib.Core.Bool.{Bool, true, false, cond}
+use mathlib.Core.Bool.{true, false}
 use mathlib.Core.List.{List, [], ◌∷◌}
 use Prim.Native.Nat.{ℕ, zero, suc, ◌+◌, ◌-◌, ◌*◌, ◌<◌, ◌≤◌}
 use native.Mathlib.Numerals.{add-one}
 use native.Mathlib.Omega.{arith}
-use lib.Dec.{leb, ltb}
 use lib.ListN.{length, take, drop, get_or, drop_of_length-le}
 use lib.Seq.{drop-cons}
-use borrow.Author.Tests.{ltb-true, ltb-false, leb-true, leb-false}
-use Rattle.laws.proofs.Tests.{clash}
 use Rattle.laws.proofs.Stores.{drop_more}
 use Rattle.rules.specs.Tables.{Tables}
 use Rattle.rules.specs.Front.{rows, decoded}
@@ -19,21 +17,19 @@ use Rattle.rules.specs.declared.Grid.{Grid}
 use Rattle.rules.specs.declared.Point.{Point}
 use Rattle.rules.specs.declared.Three.{Three}
 use Rattle.rules.specs.declared.Row.{Row}
-use Rattle.rules.specs.declared.Read.{Read}
-use Rattle.rules.specs.declared.Read.TheVariants.{Known, Unknown}
 use Rattle.rules.proofs.Steps.{finish_step, finish_still}
 use Rattle.walk.specs.Reading.{Placed}
-use Rattle.walk.specs.Taking.{state, standing, goes, Moved, Taken, Ran}
+use Rattle.walk.specs.Taking.{state, standing, Moved, Takes, Stops, Taken, Runs, Fails}
 use Rattle.walk.specs.declared.take.At.{At}
 use Rattle.walk.proofs.Adding.{same_rows}
 use Rattle.walk.proofs.Weighing.{weighed, step_falls}
 
 -- ---- what stands, opened up
 
-module _ (front out : List ℕ) (j : ℕ) (s : At) (ok : s.bad ≡ false) where
+module _ (front out : List ℕ) (j : ℕ) (s : At) where
   pub standing_fine : standing front out j s ≡ machine (drop s.head (rows front)) (take (row_numbers * s.given) out) (j - s.given) false
   unfolding standing
-  standing_fine = rw ok refl
+  standing_fine = refl
 
   module _ (lt : s.head < length (rows front)) (k : s.given < j) where
     standing_first : standing front out j s
@@ -54,47 +50,32 @@ module _ (front out : List ℕ) (j : ℕ) (s : At) (ok : s.bad ≡ false) where
 
 -- ---- one row
 
-module _ (g : Grid) (t : Tables) (q : Point) (front out : List ℕ) (s : At) (ok : s.bad ≡ false) (lt : s.head < length (rows front))
-    (a : Three) (read : Read) (ea : a ≡ get_or (rows front) s.head none) (er : read ≡ decoded a) where
-  is_move : (x : Read) → read ≡ x → move g t q (get_or (rows front) s.head none) ≡ read_move g t q x
+module _ (g : Grid) (t : Tables) (q : Point) (front out : List ℕ) (s : At) (lt : s.head < length (rows front))
+    (a : Three) (read : Option Row) (ea : a ≡ get_or (rows front) s.head none) (er : read ≡ decoded a) where
+  is_step : (x : Option Row) → read ≡ x → (j : ℕ) → s.given < j
+      → after_move (length (rows front)) (read_move g t q x) (j - s.given - 1) (drop (s.head + 1) (rows front)) (take (row_numbers * s.given) out)
+      ≡ step (move g t q) (length (rows front)) (standing front out j s)
   unfolding move
-  is_move x e = ap (λ (y : Three). read_move g t q (decoded y)) (sym ea) ∙ ap (read_move g t q) (sym er ∙ e)
+  is_step x e j k =
+      let m : move g t q (get_or (rows front) s.head none) ≡ read_move g t q x =
+      ap (λ (y : Three). read_move g t q (decoded y)) (sym ea) ∙ ap (read_move g t q) (sym er ∙ e) in
+      ap (λ (m : Move). after_move (length (rows front)) m (j - s.given - 1) (drop (s.head + 1) (rows front)) (take (row_numbers * s.given) out)) (sym m)
+      ∙ sym (standing_step front out j s lt k (move g t q) (length (rows front)))
 
-  pub taken_known : (row : Row) → read ≡ Known row → (front' out' : List ℕ) (r : At)
+  pub taken_known : (row : Row) → read ≡ Some row → (front' out' : List ℕ) (r : Option At)
       → Moved (item_move g t q row.square row.item) front out front' out' s r → Taken g t q front out front' out' s r
-  taken_known row e front' out' r p = record {
+  taken_known row e front' out' None p = record { same = p.same; is = λ j k. p.is j k ∙ is_step (Some row) e j k }
+  taken_known row e front' out' (Some r) p = record {
     inside = p.inside;
     more = p.more;
     behind = p.behind;
-    is = λ j k.
-        p.is j k
-        ∙ ap (λ (m : Move). after_move (length (rows front)) m (j - s.given - 1) (drop (s.head + 1) (rows front)) (take (row_numbers * s.given) out)) (sym (is_move (Known row) e))
-        ∙ sym (standing_step front out j s ok lt k (move g t q) (length (rows front)));
+    is = λ j k. p.is j k ∙ is_step (Some row) e j k;
   }
 
-  pub taken_unknown : read ≡ Unknown → Taken g t q front out front out s (state s.head s.given true)
-  unfolding standing
-  taken_unknown e = record {
-    inside = omega arith;
-    more = (omega arith, omega arith);
-    behind = refl;
-    is = λ j k.
-        ap (λ (m : Move). after_move (length (rows front)) m (j - s.given - 1) (drop (s.head + 1) (rows front)) (take (row_numbers * s.given) out)) (sym (is_move Unknown e))
-        ∙ sym (standing_step front out j s ok lt k (move g t q) (length (rows front)));
-  }
+  pub taken_unknown : read ≡ None → Stops g t q front out out s
+  taken_unknown e = record { same = refl; is = is_step None e }
 
 -- ---- whether a further row is taken
-
-pub goes_yes : (s : At) (j n : ℕ) → goes s j n ≡ true → (s.bad ≡ false) × (s.given < j) × (s.head < n)
-unfolding goes
-goes_yes s j n = go s.bad (leb j s.given) (ltb s.head n) refl refl refl
-  where
-    go : (p q r : Bool) → s.bad ≡ p → leb j s.given ≡ q → ltb s.head n ≡ r → cond p false (cond q false r) ≡ true
-        → (s.bad ≡ false) × (s.given < j) × (s.head < n)
-    go true q r e f g t = clash (sym t)
-    go false true r e f g t = clash (sym t)
-    go false false true e f g t = (e, leb-false j s.given f, ltb-true s.head n g)
-    go false false false e f g t = clash (sym t)
 
 halts_none : (j : ℕ) (w : List Three) → j ≡ 0 → halts false j w ≡ true
 halts_none j w e = rw e refl
@@ -103,20 +84,14 @@ halts_empty : (j : ℕ) → halts false j [] ≡ true
 halts_empty zero = refl
 halts_empty (suc j) = refl
 
-goes_no : (front out : List ℕ) (j : ℕ) (s : At) → goes s j (length (rows front)) ≡ false → halted (standing front out j s) ≡ true
-unfolding goes standing
-goes_no front out j s = go s.bad (leb j s.given) (ltb s.head (length (rows front))) refl refl
-  where
-    w : List Three
-    w = drop s.head (rows front)
+-- none: enough are given, or none waits
+pub rests_enough : (front out : List ℕ) (j : ℕ) (s : At) → j ≤ s.given → halted (standing front out j s) ≡ true
+unfolding standing
+rests_enough front out j s h = halts_none (j - s.given) (drop s.head (rows front)) (omega arith)
 
-    go : (p q r : Bool) → leb j s.given ≡ q → ltb s.head (length (rows front)) ≡ r → cond p false (cond q false r) ≡ false
-        → halted (cond p spoiled (machine w (take (row_numbers * s.given) out) (j - s.given) false)) ≡ true
-    go true q r f g t = refl
-    go false true r f g t = halts_none (j - s.given) w (let h = leb-true j s.given f in omega arith)
-    go false false true f g t = clash t
-    go false false false f g t =
-        ap (halts false (j - s.given)) (drop_of_length-le (rows front) {i = s.head} (ltb-false s.head (length (rows front)) g)) ∙ halts_empty (j - s.given)
+pub rests_empty : (front out : List ℕ) (j : ℕ) (s : At) → length (rows front) ≤ s.head → halted (standing front out j s) ≡ true
+unfolding standing
+rests_empty front out j s h = ap (halts false (j - s.given)) (drop_of_length-le (rows front) {i = s.head} h) ∙ halts_empty (j - s.given)
 
 -- ---- the loop: what stands, worked on, is the whole
 
@@ -127,42 +102,53 @@ module _ (g : Grid) (t : Tables) (q : Point) (front₀ out₀ : List ℕ) (head 
     pub front_size : length front ≡ length front₀
     pub out_size : length out ≡ length out₀
     pub behind : drop (row_numbers * s.given) out ≡ drop (row_numbers * s.given) out₀
-    pub is : finish g t q (length (rows front₀)) (standing front out j s) ≡ finish g t q (length (rows front₀)) (standing front₀ out₀ j (state head 0 false))
+    pub is : finish g t q (length (rows front₀)) (standing front out j s) ≡ finish g t q (length (rows front₀)) (standing front₀ out₀ j (state head 0))
 
-  pub run_all : head ≤ length (rows front₀) → Running front₀ out₀ (state head 0 false)
+  pub run_all : head ≤ length (rows front₀) → Running front₀ out₀ (state head 0)
   run_all h = record { inside = h; few = omega arith; front_size = refl; out_size = refl; behind = refl; is = refl }
 
   module _ (front out : List ℕ) (s : At) (p : Running front out s) where
-    module _ (go : goes s j (length (rows front)) ≡ true) (front' out' : List ℕ) (r : At) (lf : length front' ≡ length front) (lo : length out' ≡ length out)
-        (n : Taken g t q front out front' out' s r) where
-      stepped : standing front' out' j r ≡ step (move g t q) (length (rows front₀)) (standing front out j s)
-      stepped =
-          n.is j (goes_yes s j (length (rows front)) go).1
-          ∙ ap (λ (k : ℕ). step (move g t q) k (standing front out j s)) (same_rows front front₀ p.front_size)
-
+    module _ (few : s.given < j) (some : s.head < length (rows front)) where
       on : halted (standing front out j s) ≡ false
-      on = let y = goes_yes s j (length (rows front)) go in standing_goes front out j s y.0 y.2 y.1
+      on = standing_goes front out j s some few
 
-      pub run_step : Running front' out' r
-      run_step =
-          let y = goes_yes s j (length (rows front)) go in
-          let m = n.more in
+      -- the step as it is taken, of a front as long as this one
+      whole_is : step (move g t q) (length (rows front)) (standing front out j s) ≡ step (move g t q) (length (rows front₀)) (standing front out j s)
+      whole_is = ap (λ (k : ℕ). step (move g t q) k (standing front out j s)) (same_rows front front₀ p.front_size)
+
+      module _ (front' out' : List ℕ) (r : At) (lf : length front' ≡ length front) (lo : length out' ≡ length out) (n : Takes g t q front out front' out' s r) where
+        stepped : standing front' out' j r ≡ step (move g t q) (length (rows front₀)) (standing front out j s)
+        stepped = n.is j few ∙ whole_is
+
+        pub run_step : Running front' out' r
+        run_step =
+            let m = n.more in
+            record {
+              inside = n.inside;
+              few = omega arith;
+              front_size = lf ∙ p.front_size;
+              out_size = lo ∙ p.out_size;
+              behind = n.behind ∙ drop_more out out₀ (row_numbers * s.given) (row_numbers * r.given) (omega arith) p.behind;
+              is = ap (finish g t q (length (rows front₀))) stepped ∙ sym (finish_step g t q (length (rows front₀)) (standing front out j s) on) ∙ p.is;
+            }
+
+        pub run_falls : Placed g q → weighed g t (standing front' out' j r) < weighed g t (standing front out j s)
+        run_falls ok = rw stepped (step_falls g t q ok (length (rows front₀)) (standing front out j s) on)
+
+      pub run_fails : (out' : List ℕ) → Stops g t q front out out' s → Fails g t q front₀ out₀ out' head j
+      run_fails out' n =
+          let spoilt : spoiled ≡ step (move g t q) (length (rows front₀)) (standing front out j s) = n.is j few ∙ whole_is in
           record {
-            inside = n.inside;
-            few = omega arith;
-            front_size = lf ∙ p.front_size;
-            out_size = lo ∙ p.out_size;
-            behind = n.behind ∙ drop_more out out₀ (row_numbers * s.given) (row_numbers * r.given) (omega arith) p.behind;
-            is = ap (finish g t q (length (rows front₀))) stepped ∙ sym (finish_step g t q (length (rows front₀)) (standing front out j s) on) ∙ p.is;
+            behind = ap (drop (row_numbers * j)) n.same ∙ drop_more out out₀ (row_numbers * s.given) (row_numbers * j) (omega arith) p.behind;
+            is =
+                sym (finish_still g t q (length (rows front₀)) spoiled refl)
+                ∙ ap (finish g t q (length (rows front₀))) spoilt ∙ sym (finish_step g t q (length (rows front₀)) (standing front out j s) on) ∙ p.is;
           }
 
-      pub run_falls : Placed g q → weighed g t (standing front' out' j r) < weighed g t (standing front out j s)
-      run_falls ok = rw stepped (step_falls g t q ok (length (rows front₀)) (standing front out j s) on)
-
-    pub run_end_law : goes s j (length (rows front)) ≡ false → Ran g t q front₀ out₀ front out head j s
+    pub run_end_law : halted (standing front out j s) ≡ true → Runs g t q front₀ out₀ front out head j s
     run_end_law e = record {
       inside = p.inside;
       few = p.few;
       behind = p.behind;
-      is = sym (finish_still g t q (length (rows front₀)) (standing front out j s) (goes_no front out j s e)) ∙ p.is;
+      is = sym (finish_still g t q (length (rows front₀)) (standing front out j s) e) ∙ p.is;
     }

@@ -1,4 +1,5 @@
 -- A start: all runs of Tq are read, its rows find room, and its refusals in their order. Assumes nothing.
+use Rattle.std.specs.Prelude.{Option, Some, None, Result, Ok, IsSome}
 use mathlib.Core.Path.{◌≡◌, refl, sym, ap, ap₂, ◌∙◌}
 use mathlib.Core.Bool.{Bool, true, false, cond, not}
 use mathlib.Core.List.{List, [], ◌∷◌, ◌++◌, map, map-append}
@@ -6,14 +7,16 @@ use Prim.Native.Nat.{ℕ, ◌+◌, ◌-◌, ◌%◌, ◌≤◌, ◌<◌}
 use native.Mathlib.Nat.{not-suc-le-zero}
 use native.Mathlib.Omega.{arith}
 use lib.Dec.{eqb, ltb}
-use lib.ListN.{length, drop, length-append, length-map, drop_of_length-le}
+use lib.ListN.{length, drop, get_or, length-append, length-map, drop_of_length-le}
+use lib.Seq.{drop-cons}
+use native.Mathlib.Numerals.{add-one}
 use borrow.Author.Tests.{ltb-false, le-ltb, lt-ltb}
 use Rattle.laws.specs.Lists.{each}
 use Rattle.laws.proofs.Tests.{neither}
 use Rattle.laws.proofs.Counting.{length_each}
 use Rattle.rules.specs.Sizes.{most_footprints, bad_sizes, bad_point, tile_of}
 use Rattle.rules.specs.Register.{numbers, count, bad_register}
-use Rattle.rules.specs.Tables.{Tables, bad_starts, bad_lengths, tile_runs, run_at}
+use Rattle.rules.specs.Tables.{Tables, bad_starts, bad_lengths, tile_runs, run_at, good_runs}
 use Rattle.rules.specs.Refusals.{Paper, paper, paper_answer, pass, refuse}
 use Rattle.rules.specs.Search.{allowed_runs}
 use Rattle.rules.specs.Front.{rows, laid, insert_all, directions}
@@ -21,27 +24,23 @@ use Rattle.rules.specs.Walk.{group_exists, group_if, waiting_row, start_entries,
 use Rattle.rules.specs.declared.Grid.{Grid}
 use Rattle.rules.specs.declared.Point.{Point}
 use Rattle.rules.specs.declared.Direction.{Direction}
-use Rattle.rules.specs.declared.Direction.TheVariants.{Up, Right, Down, Left}
 use Rattle.rules.specs.declared.Item.{Item}
 use Rattle.rules.specs.declared.Item.TheVariants.{Group, Footprint}
 use Rattle.rules.specs.declared.Refusal.{Refusal}
 use Rattle.rules.specs.declared.Refusal.TheVariants.{Sizes, Lengths, Place, Damage, Room}
-use Rattle.rules.specs.declared.Answer.TheVariants.{Done}
 use Rattle.rules.specs.declared.Three.{Three}
 use Rattle.rules.specs.declared.Walk.{Walk}
 use Rattle.rules.specs.declared.Walked.{Walked}
 use Rattle.rules.proofs.Memory.{length_rows}
 use Rattle.rules.proofs.Report.{own_runs}
-use Rattle.walk.specs.Fill.{fill, Got, lost, kept, add_all, waits, stands}
-use Rattle.walk.specs.Reading.{Placed, run_rows, Judged}
+use Rattle.walk.specs.Fill.{fill, Got, lost, kept, add_all, waits, stands, Held, Filled}
+use Rattle.walk.specs.Reading.{Placed, run_rows, Counted}
 use Rattle.walk.specs.Groups.{item_rows}
-use Rattle.walk.specs.Answers.{Says}
+use Rattle.walk.specs.Answers.{Says, start_paper, start_walk}
 use Rattle.walk.specs.declared.batch.Fill.{Fill}
-use Rattle.walk.specs.declared.tile.Tally.{Tally}
 use Rattle.walk.proofs.Adding.{merged_none}
 use Rattle.walk.proofs.Bringing.{add_all_append}
 use Rattle.walk.proofs.Near.{sized, columns}
-use Rattle.walk.proofs.Classes.{judged_as_law}
 use Rattle.walk.proofs.Groups.{group_alone}
 use Rattle.walk.proofs.Moves.{add_all_fits}
 
@@ -52,21 +51,22 @@ module _ (g : Grid) (q : Point) (ok : Placed g q) where
   own_read : allowed_runs g q (tile_of g q) ≡ tile_runs (tile_of g q)
   own_read = own_runs g (sized g q ok).side_pos q (columns g q ok).0
 
-  module _ (t : Tables) (tile : ℕ) (et : tile ≡ tile_of g q) (r : Tally) (j : Judged g t (allowed_runs g q tile) 16 r) where
-    own_judged : Judged g t (tile_runs (tile_of g q)) 16 r
-    own_judged = judged_as_law g t (allowed_runs g q tile) (tile_runs (tile_of g q)) 16 r j (ap (allowed_runs g q) et ∙ own_read)
+  module _ (t : Tables) (tile : ℕ) (et : tile ≡ tile_of g q) where
+    own_is : allowed_runs g q tile ≡ tile_runs (tile_of g q)
+    own_is = ap (allowed_runs g q) et ∙ own_read
 
-    pub bad_runs : r.bad ≡ true → bad_start g t q ≡ true
+    pub bad_runs : good_runs g t (allowed_runs g q tile) ≡ false → bad_start g t q ≡ true
     unfolding bad_start
-    bad_runs e = rw (← own_judged.said, e) refl
+    bad_runs e = rw (← own_is, e) refl
 
-    pub too_many : r.bad ≡ false → count t.reg < r.count → bad_start g t q ≡ true
-    unfolding bad_start start_entries
-    too_many e h = rw (← own_judged.said, e, ← own_judged.counted e, lt-ltb (count t.reg) r.count h) refl
+    module _ (n : ℕ) (j : Counted g t (allowed_runs g q tile) 16 n) where
+      pub too_many : count t.reg < n → bad_start g t q ≡ true
+      unfolding bad_start start_entries
+      too_many h = rw (← own_is, j.good, ← j.counts, lt-ltb (count t.reg) n h) refl
 
-    pub good_start : r.bad ≡ false → r.count ≤ count t.reg → bad_start g t q ≡ false
-    unfolding bad_start start_entries
-    good_start e h = rw (← own_judged.said, e, ← own_judged.counted e, le-ltb (count t.reg) r.count h) refl
+      pub good_start : n ≤ count t.reg → bad_start g t q ≡ false
+      unfolding bad_start start_entries
+      good_start h = rw (← own_is, j.good, ← j.counts, le-ltb (count t.reg) n h) refl
 
 -- ---- its rows
 
@@ -77,24 +77,16 @@ module _ (g : Grid) (q : Point) where
   abbrev first_groups : List Direction → List Item
   first_groups ds = each (group_if g q 1) ds
 
-  group_first : (got : Got) (d : Direction) (ds : List Direction) → add_all got (item_rows g q (first_groups (d ∷ ds))) ≡ add_all (add_all got (group_rows d)) (item_rows g q (first_groups ds))
-  group_first got d ds =
-      ap (add_all got) (map-append (waiting_row g [] q) (group_if g q 1 d) (first_groups ds)) ∙ add_all_append got (group_rows d) (item_rows g q (first_groups ds))
+  -- the next of them, and those behind it
+  pub groups_next : (x : Direction) (i : ℕ) → i < length directions
+      → item_rows g q (first_groups (drop i directions)) ≡ group_rows (get_or directions i x) ++ item_rows g q (first_groups (drop (i + 1) directions))
+  groups_next x i h =
+      let next : drop i directions ≡ get_or directions i x ∷ drop (i + 1) directions = drop-cons directions i x h ∙ rw (add-one i) refl in
+      ap (λ (l : List Direction). item_rows g q (first_groups l)) next
+      ∙ map-append (waiting_row g [] q) (group_if g q 1 (get_or directions i x)) (first_groups (drop (i + 1) directions))
 
-  -- the four of them, one after the other
-  four_groups : (got : Got) → add_all (add_all (add_all (add_all got (group_rows Up)) (group_rows Right)) (group_rows Down)) (group_rows Left)
-      ≡ add_all got (item_rows g q (first_groups directions))
-  unfolding add_all
-  four_groups got =
-      sym (group_first got Up (Right ∷ Down ∷ Left ∷ [])
-      ∙ group_first (add_all got (group_rows Up)) Right (Down ∷ Left ∷ [])
-      ∙ group_first (add_all (add_all got (group_rows Up)) (group_rows Right)) Down (Left ∷ [])
-      ∙ group_first (add_all (add_all (add_all got (group_rows Up)) (group_rows Right)) (group_rows Down)) Left [])
-
-  pub four_steps : (got up right down : Got) → up ≡ add_all got (group_rows Up) → right ≡ add_all up (group_rows Right) → down ≡ add_all right (group_rows Down)
-      → add_all down (group_rows Left) ≡ add_all got (item_rows g q (first_groups directions))
-  four_steps got up right down a b c =
-      ap (λ (x : Got). add_all x (group_rows Left)) (c ∙ ap (λ (x : Got). add_all x (group_rows Down)) (b ∙ ap (λ (x : Got). add_all x (group_rows Right)) a)) ∙ four_groups got
+  pub groups_none : (i : ℕ) → length directions ≤ i → item_rows g q (first_groups (drop i directions)) ≡ []
+  groups_none i h = ap (λ (l : List Direction). item_rows g q (first_groups l)) (drop_of_length-le directions {i = i} h)
 
   groups_alone : (reg : List ℕ) (ds : List Direction) → item_rows g q (first_groups ds) ≡ map (waiting_row g reg q) (first_groups ds)
   groups_alone reg [] = refl
@@ -129,7 +121,7 @@ module _ (g : Grid) (q : Point) where
 
     -- all of them find room, and wait in order
     pub start_stands : (front batch : List ℕ) (n : ℕ) → n ≡ length (rows front) → length (each (run_at t) (allowed_runs g q tile)) + 4 ≤ n
-        → add_all (add_all (stands front batch (fill n 0 false)) own) groups ≡ kept (n - length (own ++ groups)) (start_front g t q)
+        → add_all (add_all (stands front batch (fill n 0)) own) groups ≡ kept (n - length (own ++ groups)) (start_front g t q)
     unfolding stands waits start_front
     start_stands front batch n e h =
         let z : n - 0 ≡ n = omega arith in
@@ -157,14 +149,17 @@ start_fits g reg front n h k = omega (arith, length_rows front)
 -- what waits once all is brought
 pub kept_waits : (front batch : List ℕ) (f : Fill) (r : ℕ) (l : List Three) → stands front batch f ≡ kept r l → waits front batch f.head f.count ≡ l
 unfolding stands
-kept_waits front batch f r l = go f.bad
-  where
-    lost_not : lost ≡ kept r l → ⊥
-    lost_not e = let z : ◌≡◌ {A = ℕ} 0 1 = cc in not-suc-le-zero {n = 0} (omega arith)
+kept_waits front batch f r l e = cc
 
-    go : (b : Bool) → cond b lost (kept (f.head - f.count) (waits front batch f.head f.count)) ≡ kept r l → waits front batch f.head f.count ≡ l
-    go true e = absurd (lost_not e)
-    go false e = cc
+-- nothing is lost
+pub kept_some : (front batch : List ℕ) (f : Option Fill) (g : Got) → Filled front batch f g → (r : ℕ) (l : List Three) → g ≡ kept r l → IsSome f
+kept_some front batch None g p r l e =
+    let h : lost ≡ kept r l = p ∙ e in
+    let z : ◌≡◌ {A = ℕ} 0 1 = cc in absurd (not-suc-le-zero {n = 0} (omega arith))
+kept_some front batch (Some f) g p r l e = refl
+
+pub held_is : (front batch : List ℕ) (r : Option Fill) (f : Fill) (g : Got) → Filled front batch r g → r ≡ Some f → Held front batch f g
+held_is front batch r f g p e = rw e at p
 
 -- ---- refusals 1, 2, 4, 7, 6
 
@@ -194,13 +189,16 @@ module _ (g : Grid) (t : Tables) (q : Point) (front : List ℕ) where
     unfolding start_verdict
     start_passes d h = rw (a, b, c, d, le-ltb (length front) (start_room g t.reg) h) refl
 
-  pub start_refused : (why : Refusal) → start_verdict g t q front ≡ refuse why → (w : Walk) → w ≡ refused_walk → (r : Walked) → Says r (paper why) w
-      → (paper_answer r.answer, r.walk, front) ≡ begun g t q front
+  pub start_refused : (why : Refusal) → start_verdict g t q front ≡ refuse why → (paper why, refused_walk, front) ≡ begun g t q front
   unfolding begun
-  start_refused why e w ew r s = rw e (ap₂ (λ (p : Paper) (x : Walk). (p, x, front)) s.paper (s.walk ∙ ew))
+  start_refused why e = rw e refl
 
   pub start_done : start_verdict g t q front ≡ pass → (front' : List ℕ) (n : ℕ) → front' ≡ laid (length front) (start_front g t q) → n ≡ length (start_front g t q)
-      → (w : Walk) → w ≡ walk_at q n false → (r : Walked) → Says r (paper_answer (Done 0)) w → (paper_answer r.answer, r.walk, front') ≡ begun g t q front
+      → (paper_answer (Ok 0), walk_at q n false, front') ≡ begun g t q front
   unfolding begun
-  start_done e front' n ef en w ew r s =
-      rw (e, ef) (ap₂ (λ (p : Paper) (x : Walk). (p, x, laid (length front) (start_front g t q))) s.paper (s.walk ∙ ew ∙ ap (λ (k : ℕ). walk_at q k false) en))
+  start_done e front' n ef en = rw (e, ef, en)
+
+  -- told as a start tells it
+  pub start_told : (told : Result ℕ Refusal) (front' : List ℕ) → (start_paper told, start_walk q told, front') ≡ begun g t q front
+      → (w : Walk) → w ≡ start_walk q told → (r : Walked) → Says r (start_paper told) w → (paper_answer r.answer, r.walk, front') ≡ begun g t q front
+  start_told told front' e w ew r s = ap₂ (λ (p : Paper) (x : Walk). (p, x, front')) s.paper (s.walk ∙ ew) ∙ e

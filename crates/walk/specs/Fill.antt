@@ -1,12 +1,12 @@
 -- Rows that are brought while room lasts: so much room and the waiting rows, or nothing that counts. Assumes nothing.
-use Rattle.std.specs.Prelude.{◌≡◌, Bool, true, false, cond, List, [], ◌∷◌, ℕ, zero, suc, ◌-◌, ◌≤◌, length, take, drop}
+use Rattle.std.specs.Prelude.{◌≡◌, Bool, true, false, List, [], ◌∷◌, ℕ, zero, suc, ◌-◌, ◌≤◌, length, take, drop, Option, Some, None}
 use Rattle.rules.specs.Front.{rows, insert}
 use Rattle.rules.specs.Merge.{merged}
 use Rattle.rules.specs.declared.Three.{Three}
 use Rattle.walk.specs.declared.batch.Fill.{Fill}
 
-abbrev pub fill : ℕ → ℕ → Bool → Fill
-fill head count bad = record { head = head; count = count; bad = bad }
+abbrev pub fill : ℕ → ℕ → Fill
+fill head count = record { head = head; count = count }
 
 -- damage was met, or rows wait and so many more find room
 pub data Got : Type 0 where
@@ -35,7 +35,7 @@ waits front batch head count = merged (take count (rows batch)) (drop head (rows
 
 -- what stands in the front and the batch
 unfoldable pub stands : List ℕ → List ℕ → Fill → Got
-stands front batch f = cond f.bad lost (kept (f.head - f.count) (waits front batch f.head f.count))
+stands front batch f = kept (f.head - f.count) (waits front batch f.head f.count)
 
 -- the batch finds room in the front, and another row in the batch
 pub record Safe (front batch : List ℕ) (f : Fill) : Type 0 where
@@ -44,6 +44,12 @@ pub record Safe (front batch : List ℕ) (f : Fill) : Type 0 where
   pub few : f.count ≤ 256
   pub wide : 256 ≤ length (rows batch)
 
-pub record Filled (front batch : List ℕ) (f : Fill) (g : Got) : Type 0 where
+-- so much stands
+pub record Held (front batch : List ℕ) (f : Fill) (g : Got) : Type 0 where
   pub safe : Safe front batch f
   pub is : stands front batch f ≡ g
+
+-- or damage was met
+abbrev pub Filled : List ℕ → List ℕ → Option Fill → Got → Type 0
+Filled front batch None g = lost ≡ g
+Filled front batch (Some f) g = Held front batch f g

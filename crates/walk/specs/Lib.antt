@@ -3,3 +3,4 @@ pub mod Reading
 pub mod Groups
 pub mod Taking
 pub mod Answers
+pub mod Outward

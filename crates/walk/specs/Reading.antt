@@ -1,5 +1,5 @@
 -- What is read: what was judged before, the runs of a tile by a mask of classes, and what they bring. Assumes nothing.
-use Rattle.std.specs.Prelude.{◌≡◌, Bool, false, not, List, map, ℕ, ◌*◌, ◌≤◌, ◌<◌, length}
+use Rattle.std.specs.Prelude.{◌≡◌, Bool, true, false, not, List, map, ℕ, ◌*◌, ◌≤◌, ◌<◌, length, Option, Some, None}
 use Rattle.laws.specs.Lists.{each, all}
 use Rattle.rules.specs.Sizes.{most_entries, bad_sizes, bad_point}
 use Rattle.rules.specs.Register.{bad_entry}
@@ -11,7 +11,6 @@ use Rattle.rules.specs.declared.Point.{Point}
 use Rattle.rules.specs.declared.Item.TheVariants.{Footprint}
 use Rattle.rules.specs.declared.Three.{Three}
 use Rattle.grid.specs.Places.{is_on}
-use Rattle.walk.specs.declared.tile.Tally.{Tally}
 
 -- refusals 1 and 4 do not apply
 pub record Placed (g : Grid) (q : Point) : Type 0 where
@@ -39,11 +38,13 @@ run_rows g t q ks = entry_rows g t.reg q (each (run_at t) ks)
 abbrev pub Allows : Grid → Point → ℕ → ℕ → Type 0
 Allows g q tile mask = (class : ℕ) → class < 16 → is_on mask class ≡ allowed_in g q tile class
 
-abbrev pub tally : ℕ → Bool → Tally
-tally count bad = record { count = count; bad = bad }
+-- so many runs are judged: none shows damage, and their entries are counted
+pub record Counted (g : Grid) (t : Tables) (ks : List ℕ) (many count : ℕ) : Type 0 where
+  pub good : good_runs g t ks ≡ true
+  pub counts : count ≡ length (each (run_at t) ks)
+  pub few : count ≤ many * most_entries
 
--- so many runs are judged, and their entries are counted
-pub record Judged (g : Grid) (t : Tables) (ks : List ℕ) (many : ℕ) (r : Tally) : Type 0 where
-  pub said : r.bad ≡ not (good_runs g t ks)
-  pub counted : r.bad ≡ false → r.count ≡ length (each (run_at t) ks)
-  pub few : r.count ≤ many * most_entries
+-- or one does
+abbrev pub Judged : Grid → Tables → List ℕ → ℕ → Option ℕ → Type 0
+Judged g t ks many None = good_runs g t ks ≡ false
+Judged g t ks many (Some count) = Counted g t ks many count

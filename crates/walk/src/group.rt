@@ -7,11 +7,11 @@ ghost use Rattle.rules.specs.Lines.{row_line, column_line, group_line};
 ghost use Rattle.rules.specs.Walk.{group_exists, group_gap, waiting_row, group_if, group_brings};
 ghost use Rattle.rules.specs.declared.Item.TheVariants.{Group, Tile};
 ghost use Rattle.walk.specs.Fill.{add_all, brought, stands, Safe, Filled};
-ghost use Rattle.walk.specs.Reading.{Placed};
 ghost use Rattle.walk.specs.Groups.{Lies, item_rows};
 
-use crate::batch::{Fill, add, spoil};
-use rules::{Direction, Grid, Item, Point, Row, Span, Three};
+use crate::batch::{Fill, add};
+use crate::ready::Outward;
+use rules::{Direction, Grid, Item, Row, Span, Three};
 
 // Tiles whose numbers lie the same way apart: the first, how far apart, and how many.
 #[derive(Clone, Copy)]
@@ -21,28 +21,16 @@ pub(crate) struct Tiles {
     pub(crate) many: u32,
 }
 
-// What is left of a without b; 0 where b is not below a.
-fn less(a: u32, b: u32) -> u32
-    ensures { result ≡ a - b }
-{
-    if a < b { 0 } else { a - b }
-}
-
-fn least(a: u32, b: u32) -> u32
-    ensures { result ≡ min a b }
-{
-    if a < b { a } else { b }
-}
-
 // Whether the group of a direction and a level has its row or column on the grid.
-pub(crate) fn group_exists(g: Grid, q: Point, d: Direction, level: u32) -> bool
-    ensures { result ≡ group_exists g q d level }
+#[tactic(auto, unfolding(rules::specs::Walk::group_exists, rules::specs::Walk::exists))]
+pub(crate) fn group_exists(w: &Outward<'_>, d: Direction, level: u32) -> bool
+    ensures { result ≡ group_exists w.now.g w.now.q d level }
 {
-    let c = grid::column(g, q.x);
-    let r = grid::column(g, q.y);
+    let c = grid::column(w.g, w.q.x);
+    let r = grid::column(w.g, w.q.y);
     match d {
-        Direction::Up => grid::wide(r) + grid::wide(level) < grid::wide(g.n),
-        Direction::Right => grid::wide(c) + grid::wide(level) < grid::wide(g.n),
+        Direction::Up => u64::from(r) + u64::from(level) < u64::from(w.g.n),
+        Direction::Right => u64::from(c) + u64::from(level) < u64::from(w.g.n),
         Direction::Down => level <= r,
         Direction::Left => level <= c,
     }
@@ -53,50 +41,46 @@ fn gap_to(g: Grid, c: u32, col: u32) -> u64
     requires { (1 ≤ g.side) × (g.side ≤ 16384) × (col < 64) × (c ≤ 1048576) }
     ensures { (result ≡ gap (at c) (cover g.side col)) × (result ≤ 1048576) }
 {
-    let here = Span { lo: c, hi: c };
-    let there = grid::cover(g.side, col);
-    grid::wide(grid::gap(here, there))
+    u64::from(grid::gap(Span { lo: c, hi: c }, grid::cover(g.side, col)))
 }
 
 // The gap from the point to a group's row or column alone.
-fn group_gap(g: Grid, q: Point, d: Direction, level: u32) -> u64
-    requires { Placed g q × (group_exists g q d level ≡ true) }
-    ensures { (result ≡ group_gap g q d level) × (result ≤ 1048576) }
+fn group_gap(w: &Outward<'_>, d: Direction, level: u32) -> u64
+    requires { group_exists w.now.g w.now.q d level ≡ true }
+    ensures { (result ≡ group_gap w.now.g w.now.q d level) × (result ≤ 1048576) }
 {
-    let c = grid::column(g, q.x);
-    let r = grid::column(g, q.y);
+    let c = grid::column(w.g, w.q.x);
+    let r = grid::column(w.g, w.q.y);
     match d {
-        Direction::Up => gap_to(g, q.y, r + level),
-        Direction::Right => gap_to(g, q.x, c + level),
-        Direction::Down => gap_to(g, q.y, r - level),
-        Direction::Left => gap_to(g, q.x, c - level),
+        Direction::Up => gap_to(w.g, w.q.y, r + level),
+        Direction::Right => gap_to(w.g, w.q.x, c + level),
+        Direction::Down => gap_to(w.g, w.q.y, r - level),
+        Direction::Left => gap_to(w.g, w.q.x, c - level),
     }
 }
 
 // A group as a waiting row.
-fn group_row(g: Grid, q: Point, d: Direction, level: u32) -> Three
-    requires { Placed g q × (group_exists g q d level ≡ true) }
-    ensures { result ≡ waiting_row g [] q (Group d level) }
+fn group_row(w: &Outward<'_>, d: Direction, level: u32) -> Three
+    requires { group_exists w.now.g w.now.q d level ≡ true }
+    ensures { result ≡ waiting_row w.now.g [] w.now.q (Group d level) }
 {
-    let gap = group_gap(g, q, d, level);
-    let item = Item::Group(d, level);
-    front::encode(Row {
+    let gap = group_gap(w, d, level);
+    Three::from(Row {
         square: gap * gap,
-        item,
+        item: Item::Group(d, level),
     })
 }
 
 // A tile as a waiting row.
-fn tile_row(g: Grid, q: Point, tile: u32) -> Three
-    requires { Placed g q × (tile < tile_count g) }
-    ensures { result ≡ waiting_row g [] q (Tile tile) }
+fn tile_row(w: &Outward<'_>, tile: u32) -> Three
+    requires { tile < tile_count w.now.g }
+    ensures { result ≡ waiting_row w.now.g [] w.now.q (Tile tile) }
 {
-    let dx = gap_to(g, q.x, tile % g.n);
-    let dy = gap_to(g, q.y, tile / g.n);
-    let item = Item::Tile(tile);
-    front::encode(Row {
+    let dx = gap_to(w.g, w.q.x, tile % w.g.n);
+    let dy = gap_to(w.g, w.q.y, tile / w.g.n);
+    Three::from(Row {
         square: dx * dx + dy * dy,
-        item,
+        item: Item::Tile(tile),
     })
 }
 
@@ -125,88 +109,92 @@ fn column_tiles(g: Grid, col: u32, begin: u32, past: u32) -> Tiles
 }
 
 // The tiles of a group, tiles off the grid left out.
-fn group_tiles(g: Grid, q: Point, d: Direction, level: u32) -> Tiles
-    requires { Placed g q × (1 ≤ level) × (group_exists g q d level ≡ true) }
-    ensures { Lies (group_line g q d level) result }
+fn group_tiles(w: &Outward<'_>, d: Direction, level: u32) -> Tiles
+    requires { (1 ≤ level) × (group_exists w.now.g w.now.q d level ≡ true) }
+    ensures { Lies (group_line w.now.g w.now.q d level) result }
 {
-    let c = grid::column(g, q.x);
-    let r = grid::column(g, q.y);
+    let c = grid::column(w.g, w.q.x);
+    let r = grid::column(w.g, w.q.y);
     match d {
-        Direction::Up => row_tiles(g, r + level, less(c, level), least(c + level, g.n)),
-        Direction::Right => column_tiles(
-            g,
-            c + level,
-            less(r + 1, level),
-            least(r + level + 1, g.n),
+        Direction::Up => row_tiles(
+            w.g,
+            r + level,
+            c.saturating_sub(level),
+            (c + level).min(w.g.n),
         ),
-        Direction::Down => row_tiles(g, r - level, less(c + 1, level), least(c + level + 1, g.n)),
-        Direction::Left => column_tiles(g, c - level, less(r, level), least(r + level, g.n)),
+        Direction::Right => column_tiles(
+            w.g,
+            c + level,
+            (r + 1).saturating_sub(level),
+            (r + level + 1).min(w.g.n),
+        ),
+        Direction::Down => row_tiles(
+            w.g,
+            r - level,
+            (c + 1).saturating_sub(level),
+            (c + level + 1).min(w.g.n),
+        ),
+        Direction::Left => column_tiles(
+            w.g,
+            c - level,
+            r.saturating_sub(level),
+            (r + level).min(w.g.n),
+        ),
     }
 }
 
 // Tiles on the grid are brought.
-fn add_tiles(g: Grid, q: Point, front: &mut [u64], batch: &mut [u64], f: Fill, tiles: Tiles) -> Fill
+fn add_tiles(
+    w: &Outward<'_>,
+    front: &mut [u64],
+    batch: &mut [u64],
+    mut f: Fill,
+    tiles: Tiles,
+) -> Option<Fill>
     requires safe { Safe front.old batch.old f }
-    requires placed { Placed g q × (tiles.apart ≤ 64) × (tiles.many ≤ 64) }
-    requires by_index { (j : ℕ) → j < tiles.many → tiles.start + j * tiles.apart < tile_count g }
-    ensures { Filled front.new batch.new result (add_all (stands front.old batch.old f) (item_rows g q (map Tile (line tiles.start tiles.apart tiles.many)))) }
+    requires few { (tiles.apart ≤ 64) × (tiles.many ≤ 64) }
+    requires on_grid { (j : ℕ) → j < tiles.many → tiles.start + j * tiles.apart < tile_count w.now.g }
+    ensures { Filled front.new batch.new result (add_all (stands front.old batch.old f) (item_rows w.now.g w.now.q (map Tile (line tiles.start tiles.apart tiles.many)))) }
 {
-    let apart = tiles.apart;
-    let many = tiles.many;
-    let mut h = f;
-    let mut tile = tiles.start;
-    let mut i: u32 = 0;
-    while i < many {
-        let t = tile_row(g, q, tile);
-        h = add(front, batch, h, t);
-        tile += apart;
-        i += 1;
+    for i in 0..tiles.many {
+        f = add(front, batch, f, tile_row(w, tiles.start + i * tiles.apart))?;
     }
-    h
+    Some(f)
 }
 
 // A group is brought, if it exists.
 pub(crate) fn add_group(
-    g: Grid,
-    q: Point,
+    w: &Outward<'_>,
     front: &mut [u64],
     batch: &mut [u64],
     f: Fill,
     d: Direction,
     level: u32,
-) -> Fill
+) -> Option<Fill>
     requires safe { Safe front.old batch.old f }
-    requires placed { Placed g q }
-    ensures { Filled front.new batch.new result (add_all (stands front.old batch.old f) (item_rows g q (group_if g q level d))) }
+    ensures { Filled front.new batch.new result (add_all (stands front.old batch.old f) (item_rows w.now.g w.now.q (group_if w.now.g w.now.q level d))) }
 {
-    if group_exists(g, q, d, level) {
-        let t = group_row(g, q, d, level);
-        return add(front, batch, f, t);
+    if !group_exists(w, d, level) {
+        return Some(f);
     }
-    f
+    add(front, batch, f, group_row(w, d, level))
 }
 
 // A group brings its tiles and the next group of its direction, if that exists; no such group is damage.
 pub(crate) fn open_group(
-    g: Grid,
-    q: Point,
+    w: &Outward<'_>,
     front: &mut [u64],
     batch: &mut [u64],
     f: Fill,
     d: Direction,
     level: u32,
-) -> Fill
+) -> Option<Fill>
     requires safe { Safe front.old batch.old f }
-    requires placed { Placed g q }
-    ensures { Filled front.new batch.new result (brought (stands front.old batch.old f) (eqb level 0 || not (group_exists g q d level)) (item_rows g q (group_brings g q d level))) }
+    ensures { Filled front.new batch.new result (brought (stands front.old batch.old f) (eqb level 0 || not (group_exists w.now.g w.now.q d level)) (item_rows w.now.g w.now.q (group_brings w.now.g w.now.q d level))) }
 {
-    if level == 0 {
-        return spoil(f);
+    if level == 0 || !group_exists(w, d, level) {
+        return None;
     }
-    if group_exists(g, q, d, level) {
-        let tiles = group_tiles(g, q, d, level);
-        let h = add_tiles(g, q, front, batch, f, tiles);
-        return add_group(g, q, front, batch, h, d, level + 1);
-    }
-    spoil(f)
+    let f = add_tiles(w, front, batch, f, group_tiles(w, d, level))?;
+    add_group(w, front, batch, f, d, level + 1)
 }

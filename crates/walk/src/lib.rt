@@ -1,6 +1,7 @@
 // The walk outward from a point, over lent tables and a lent front: start and ask.
 #![tactic(auto)]
 
+mod ready; // ready.rt: the lent tables, read outward from a point
 mod batch; // batch.rt: new rows gathered in order, and merged into the waiting rows
 mod tile; // tile.rt: a tile's runs judged, and its footprints
 mod group; // group.rt: a group's tiles, and the next group
@@ -16,14 +17,15 @@ ghost use Rattle.rules.specs.Search.{allowed_runs};
 ghost use Rattle.rules.specs.Front.{rows, laid, directions};
 ghost use Rattle.rules.specs.Walk.{group_if, start_front, start_room, row_numbers, machine, spoiled, finish, walk_at, refused_walk, walk_point, whole_rows, ask_outcome, begun, asks};
 ghost use Rattle.walk.specs.Fill.{add_all, stands, Safe, Filled};
-ghost use Rattle.walk.specs.Reading.{Placed, Ready};
+ghost use Rattle.walk.specs.Outward.{lent_by};
+ghost use Rattle.walk.specs.Reading.{run_rows};
 ghost use Rattle.walk.specs.Groups.{item_rows};
-ghost use Rattle.rules.specs.declared.Answer.TheVariants.{Done};
-ghost use Rattle.walk.specs.Answers.{Says};
+ghost use Rattle.walk.specs.Answers.{Says, start_paper, start_walk};
 
-use batch::{Fill, flush};
+use batch::{BATCH_NUMBERS, Fill, flush};
 use group::add_group;
-use rules::{Answer, Direction, Grid, Point, Refusal, Walk, Walked};
+use ready::Outward;
+use rules::{Direction, Grid, Point, Refusal, Walk, Walked};
 use tables::register;
 use take::{ROW_NUMBERS, run};
 use tile::{add_tile, judge_tile};
@@ -56,80 +58,128 @@ fn refused_walk() -> Walk
 fn refused(why: Refusal, walk: Walk) -> Walked
     ensures { Says result (paper why) walk }
 {
-    let answer = Answer::Refused(why);
-    Walked { answer, walk }
+    Walked {
+        answer: Err(why),
+        walk,
+    }
 }
 
 // So many rows are given, and the state is so.
 fn done(rows: u64, walk: Walk) -> Walked
-    ensures { Says result (paper_answer (Done rows)) walk }
+    ensures { Says result (paper_answer (Ok rows)) walk }
 {
-    let answer = Answer::Done(rows);
-    Walked { answer, walk }
+    Walked {
+        answer: Ok(rows),
+        walk,
+    }
 }
 
 // ---- start
 
 // The tile that the point lies in.
-fn tile_of(g: Grid, q: Point) -> u32
-    requires { Placed g q }
-    ensures { (result ≡ tile_of g q) × (result < tile_count g) }
+fn tile_of(w: &Outward<'_>) -> u32
+    ensures { (result ≡ tile_of w.now.g w.now.q) × (result < tile_count w.now.g) }
 {
-    let row = grid::column(g, q.y);
-    let col = grid::column(g, q.x);
-    grid::tile_no(g, row, col)
+    grid::tile_no(w.g, grid::column(w.g, w.q.y), grid::column(w.g, w.q.x))
 }
 
 // The numbers of room that a start needs.
-fn start_room(g: Grid, reg: &[u32]) -> u64
-    requires { (count reg.now ≤ 65536) × (tile_count g ≤ 4096) }
-    ensures { result ≡ start_room g reg.now }
+#[tactic(auto, unfolding(rules::specs::Walk::start_room))]
+fn start_room(w: &Outward<'_>) -> u64
+    ensures { result ≡ start_room w.now.g w.now.reg.now }
 {
-    let footprints = register::count(reg) as u64;
-    let tiles = grid::tile_count(g) as u64;
-    3 * (footprints + tiles + 4)
+    3 * (register::count(w.reg) as u64 + grid::tile_count(w.g) as u64 + 4)
 }
 
 // The level 1 groups are brought.
-fn add_groups(g: Grid, q: Point, front: &mut [u64], batch: &mut [u64], f: Fill) -> Fill
+fn add_groups(w: &Outward<'_>, front: &mut [u64], batch: &mut [u64], mut f: Fill) -> Option<Fill>
     requires safe { Safe front.old batch.old f }
-    requires placed { Placed g q }
-    ensures { Filled front.new batch.new result (add_all (stands front.old batch.old f) (item_rows g q (each (group_if g q 1) directions))) }
+    ensures { Filled front.new batch.new result (add_all (stands front.old batch.old f) (item_rows w.now.g w.now.q (each (group_if w.now.g w.now.q 1) directions))) }
 {
-    let up = add_group(g, q, front, batch, f, Direction::Up, 1);
-    let right = add_group(g, q, front, batch, up, Direction::Right, 1);
-    let down = add_group(g, q, front, batch, right, Direction::Down, 1);
-    add_group(g, q, front, batch, down, Direction::Left, 1)
+    for d in [
+        Direction::Up,
+        Direction::Right,
+        Direction::Down,
+        Direction::Left,
+    ] {
+        f = add_group(w, front, batch, f, d, 1)?;
+    }
+    Some(f)
+}
+
+// The footprints of the point's tile and the level 1 groups are brought.
+fn add_start(
+    w: &Outward<'_>,
+    tile: u32,
+    front: &mut [u64],
+    batch: &mut [u64],
+    f: Fill,
+) -> Option<Fill>
+    requires safe { Safe front.old batch.old f }
+    requires tile_there { tile < tile_count w.now.g }
+    requires no_damage { good_runs w.now.g (lent_by w.now) (allowed_runs w.now.g w.now.q tile) ≡ true }
+    ensures { Filled front.new batch.new result (add_all (add_all (stands front.old batch.old f) (run_rows w.now.g (lent_by w.now) w.now.q (allowed_runs w.now.g w.now.q tile))) (item_rows w.now.g w.now.q (each (group_if w.now.g w.now.q 1) directions))) }
+{
+    let f = add_tile(w, front, batch, f, tile)?;
+    add_groups(w, front, batch, f)
 }
 
 // Lays the start's rows into the front, 0 past them, and returns how many they are.
-fn lay_start(
+fn lay_start(w: &Outward<'_>, tile: u32, front: &mut [u64]) -> usize
+    requires own_tile { (tile ≡ tile_of w.now.g w.now.q) × (tile < tile_count w.now.g) }
+    requires no_damage { good_runs w.now.g (lent_by w.now) (allowed_runs w.now.g w.now.q tile) ≡ true }
+    requires room { length (each (run_at (lent_by w.now)) (allowed_runs w.now.g w.now.q tile)) + 4 ≤ length (rows front.old) }
+    ensures { (front.new ≡ laid (length front.old) (start_front w.now.g (lent_by w.now) w.now.q)) × (result ≡ length (start_front w.now.g (lent_by w.now) w.now.q)) }
+{
+    let mut batch = [0; BATCH_NUMBERS];
+    let fresh = Fill {
+        head: front::whole(front),
+        count: 0,
+    };
+    let f = add_start(w, tile, front, &mut batch, fresh).unwrap();
+    let head = flush(front, &batch, f);
+    front::settle(front, head)
+}
+
+// Lays a start's rows, and returns how many they are, or why it is refused: 1, 2, 4, 7 or 6, in this order, with the front as it was.
+fn begin(
     g: Grid,
     reg: &[u32],
     starts: &[u32],
     entries: &[u32],
     q: Point,
-    tile: u32,
     front: &mut [u64],
-) -> usize
-    requires ready { Ready g (tables reg.now starts.now entries.now) q }
-    requires tile_value { (tile ≡ tile_of g q) × (tile < tile_count g) }
-    requires tile_value_2 { good_runs g (tables reg.now starts.now entries.now) (allowed_runs g q tile) ≡ true }
-    requires tile_in_bounds { length (each (run_at (tables reg.now starts.now entries.now)) (allowed_runs g q tile)) + 4 ≤ length (rows front.old) }
-    ensures { (front.new ≡ laid (length front.old) (start_front g (tables reg.now starts.now entries.now) q)) × (result ≡ length (start_front g (tables reg.now starts.now entries.now) q)) }
+) -> Result<usize, Refusal>
+    ensures { (start_paper result, start_walk q result, front.new) ≡ begun g (tables reg.now starts.now entries.now) q front.old }
 {
-    let mut batch: [u64; 768] = [0; 768];
-    let fresh = Fill {
-        head: front::whole(front),
-        count: 0,
-        bad: false,
+    if grid::bad_sizes(g) {
+        return Err(Refusal::Sizes);
+    }
+    if register::bad_lengths(g, reg, starts) {
+        return Err(Refusal::Lengths);
+    }
+    if grid::bad_point(g, q) {
+        return Err(Refusal::Place);
+    }
+    let w = Outward {
+        g,
+        reg,
+        starts,
+        entries,
+        q,
     };
-    let t = add_tile(g, reg, starts, entries, q, front, &mut batch, fresh, tile);
-    let f = add_groups(g, q, front, &mut batch, t);
-    let head = f.head;
-    let count = f.count;
-    let to = flush(front, &batch, head, count);
-    front::settle(front, to)
+    let tile = tile_of(&w);
+    let Some(count) = judge_tile(&w, tile) else {
+        return Err(Refusal::Damage);
+    };
+    if register::count(reg) < count {
+        return Err(Refusal::Damage);
+    }
+    let need = start_room(&w);
+    if (front.len() as u64) < need {
+        return Err(Refusal::Room(need));
+    }
+    Ok(lay_start(&w, tile, front))
 }
 
 // Begins a walk from x, y: the front holds the footprints of the point's tile and the level 1 groups.
@@ -146,29 +196,10 @@ pub fn start(
     ensures { (paper_answer result.answer, result.walk, front.new) ≡ begun g (tables reg.now starts.now entries.now) (record { x = x; y = y }) front.old }
 {
     let q = Point { x, y };
-    if grid::bad_sizes(g) {
-        return refused(Refusal::Sizes, refused_walk());
+    match begin(g, reg, starts, entries, q, front) {
+        Ok(waiting) => done(0, walk_at(q, waiting, false)),
+        Err(why) => refused(why, refused_walk()),
     }
-    if register::bad_lengths(g, reg, starts) {
-        return refused(Refusal::Lengths, refused_walk());
-    }
-    if grid::bad_point(g, q) {
-        return refused(Refusal::Place, refused_walk());
-    }
-    let tile = tile_of(g, q);
-    let t = judge_tile(g, reg, starts, entries, q, tile);
-    if t.bad {
-        return refused(Refusal::Damage, refused_walk());
-    }
-    if register::count(reg) < t.count {
-        return refused(Refusal::Damage, refused_walk());
-    }
-    let need = start_room(g, reg);
-    if (front.len() as u64) < need {
-        return refused(Refusal::Room(need), refused_walk());
-    }
-    let waiting = lay_start(g, reg, starts, entries, q, tile, front);
-    done(0, walk_at(q, waiting, false))
 }
 
 // ---- ask
@@ -178,9 +209,8 @@ fn spoil_ask(front: &mut [u64], walk: Walk, j: usize, out: &mut [u64]) -> Walked
     requires { row_numbers * j ≤ length out.old }
     ensures { (paper_answer result.answer, result.walk, front.new, out.new) ≡ ask_outcome walk front.old j out.old spoiled }
 {
-    let size = front.len();
-    front::zero(front, 0, size);
-    front::zero(out, 0, ROW_NUMBERS * j);
+    front.fill(0);
+    out[..ROW_NUMBERS * j].fill(0);
     let q = Point {
         x: walk.x,
         y: walk.y,
@@ -189,33 +219,17 @@ fn spoil_ask(front: &mut [u64], walk: Walk, j: usize, out: &mut [u64]) -> Walked
 }
 
 // Rows are taken from the waiting ones, which stand at the end of the front meanwhile, and moved back.
-fn ask_rows(
-    g: Grid,
-    reg: &[u32],
-    starts: &[u32],
-    entries: &[u32],
-    front: &mut [u64],
-    walk: Walk,
-    j: usize,
-    out: &mut [u64],
-) -> Walked
-    requires ready { Ready g (tables reg.now starts.now entries.now) (walk_point walk) }
-    requires waiting_in_bounds { (walk.waiting ≤ length (rows front.old)) × (row_numbers * j ≤ length out.old) }
-    ensures { (paper_answer result.answer, result.walk, front.new, out.new) ≡ ask_outcome walk front.old j out.old (finish g (tables reg.now starts.now entries.now) (walk_point walk) (whole_rows front.old) (machine (take walk.waiting (rows front.old)) [] j false)) }
+fn ask_rows(w: &Outward<'_>, front: &mut [u64], walk: Walk, j: usize, out: &mut [u64]) -> Walked
+    requires same_point { w.now.q ≡ walk_point walk }
+    requires room { (walk.waiting ≤ length (rows front.old)) × (row_numbers * j ≤ length out.old) }
+    ensures { (paper_answer result.answer, result.walk, front.new, out.new) ≡ ask_outcome walk front.old j out.old (finish w.now.g (lent_by w.now) w.now.q (whole_rows front.old) (machine (take walk.waiting (rows front.old)) [] j false)) }
 {
-    let q = Point {
-        x: walk.x,
-        y: walk.y,
-    };
-    let waiting = walk.waiting;
-    let from = front::lift(front, waiting);
-    let s = run(g, reg, starts, entries, q, front, from, j, out);
-    if s.bad {
+    let from = front::lift(front, walk.waiting);
+    let Some(s) = run(w, front, from, j, out) else {
         return spoil_ask(front, walk, j, out);
-    }
-    let head = s.head;
-    let left = front::settle(front, head);
-    done(s.given as u64, walk_at(q, left, false))
+    };
+    let left = front::settle(front, s.head);
+    done(s.given as u64, walk_at(w.q, left, false))
 }
 
 // Gives the next j rows of a walk, two numbers each, and fewer only when nothing waits any more.
@@ -250,11 +264,15 @@ pub fn ask(
     if out.len() < need {
         return refused(Refusal::Room(need as u64), walk);
     }
-    if walk.damaged {
+    if walk.damaged || front::whole(front) < walk.waiting {
         return spoil_ask(front, walk, wanted, out);
     }
-    if front::whole(front) < walk.waiting {
-        return spoil_ask(front, walk, wanted, out);
-    }
-    ask_rows(g, reg, starts, entries, front, walk, wanted, out)
+    let w = Outward {
+        g,
+        reg,
+        starts,
+        entries,
+        q,
+    };
+    ask_rows(&w, front, walk, wanted, out)
 }

@@ -1,255 +1,165 @@
 // A tile: its runs of allowed classes judged, and their footprints brought.
 ghost use Rattle.std.specs.Prelude.{◌≡◌, true, false, not, ◌||◌, [], ◌∷◌, map, ◌+◌, ◌*◌, ◌≤◌, ◌<◌, leb, length};
-ghost use Rattle.laws.specs.Lists.{keep, part};
+ghost use Rattle.laws.specs.Lists.{keep};
 ghost use Rattle.rules.specs.Sizes.{tile_count};
 ghost use Rattle.rules.specs.Register.{bad_entry};
-ghost use Rattle.rules.specs.Tables.{tables, good_runs};
+ghost use Rattle.rules.specs.Tables.{good_runs};
 ghost use Rattle.rules.specs.Search.{allowed_runs};
 ghost use Rattle.rules.specs.Walk.{waiting_row, tile_brings};
 ghost use Rattle.rules.specs.declared.Item.TheVariants.{Footprint};
 ghost use Rattle.grid.specs.Places.{is_on};
 ghost use Rattle.walk.specs.Fill.{add_all, brought, stands, Safe, Filled};
-ghost use Rattle.walk.specs.Reading.{Placed, Ready, good_entries, entry_rows, run_rows, Allows, Judged};
+ghost use Rattle.walk.specs.Outward.{lent_by};
+ghost use Rattle.walk.specs.Reading.{good_entries, entry_rows, run_rows, Allows, Judged};
 
-use crate::batch::{Fill, add, spoil};
-use rules::{Grid, Item, Point, Row, Three};
+use crate::batch::{Fill, add};
+use crate::ready::Outward;
+use rules::{Grid, Item, Row, Three};
 use tables::register;
 
-// How many entries the runs have, and whether they are damaged.
-#[derive(Clone, Copy)]
-pub(crate) struct Tally {
-    pub(crate) count: usize,
-    pub(crate) bad: bool,
+// Whether an entry of a run may not be named.
+fn bad_entries(g: Grid, reg: &[u32], run: &[u32]) -> bool
+    ensures { result ≡ not (good_entries g reg.now run.now) }
+{
+    run.iter().any(|i| tables::bad_entry(g, reg, *i))
 }
 
-// Whether an entry from begin up to past is one that may not stand.
-fn bad_part(g: Grid, reg: &[u32], entries: &[u32], begin: usize, past: usize) -> bool
-    requires { past ≤ length entries.now }
-    ensures { result ≡ not (good_entries g reg.now (part entries.now begin past)) }
+// How many entries run k has, if it shows no damage.
+#[tactic(auto, using(tables::proofs::Runs::good_ends))]
+fn judge_run(w: &Outward<'_>, k: usize) -> Option<usize>
+    requires { k + 1 < length w.now.starts.now }
+    ensures { Judged w.now.g (lent_by w.now) (k ∷ []) 1 result }
 {
-    let mut i = begin;
-    while i < past {
-        if tables::bad_entry(g, reg, entries[i]) {
-            return true;
-        }
-        i += 1;
+    let begin = w.starts[k] as usize;
+    let past = w.starts[k + 1] as usize;
+    if tables::bad_ends(w.entries.len(), begin, past)
+        || bad_entries(w.g, w.reg, &w.entries[begin..past])
+    {
+        return None;
     }
-    false
+    Some(past - begin)
 }
 
-// Run k is judged, and its entries are counted.
-fn judge_run(g: Grid, reg: &[u32], starts: &[u32], entries: &[u32], k: usize) -> Tally
-    requires { k + 1 < length starts.now }
-    ensures { Judged g (tables reg.now starts.now entries.now) (k ∷ []) 1 result }
+// How many entries the run of a class in a tile has, if it shows no damage; 0 where the mask does not allow the class.
+fn judge_class(w: &Outward<'_>, mask: u16, tile: u32, class: u32) -> Option<usize>
+    requires { 16 * tile + class + 1 < length w.now.starts.now }
+    ensures { Judged w.now.g (lent_by w.now) (keep (is_on mask class) (16 * tile + class) []) 1 result }
 {
-    let begin = tables::wide(starts[k]);
-    let past = tables::wide(starts[k + 1]);
-    if tables::bad_ends(entries.len(), begin, past) {
-        return Tally {
-            count: 0,
-            bad: true,
-        };
+    if !grid::is_on(mask, class) {
+        return Some(0);
     }
-    if bad_part(g, reg, entries, begin, past) {
-        return Tally {
-            count: 0,
-            bad: true,
-        };
-    }
-    Tally {
-        count: past - begin,
-        bad: false,
-    }
-}
-
-// The run of a class in a tile is judged, if the mask allows the class.
-fn judge_class(
-    g: Grid,
-    reg: &[u32],
-    starts: &[u32],
-    entries: &[u32],
-    mask: u16,
-    tile: u32,
-    class: u32,
-) -> Tally
-    requires { 16 * tile + class + 1 < length starts.now }
-    ensures { Judged g (tables reg.now starts.now entries.now) (keep (is_on mask class) (16 * tile + class) []) 1 result }
-{
-    if grid::is_on(mask, class) {
-        return judge_run(
-            g,
-            reg,
-            starts,
-            entries,
-            16 * tables::wide(tile) + tables::wide(class),
-        );
-    }
-    Tally {
-        count: 0,
-        bad: false,
-    }
+    judge_run(w, 16 * tile as usize + class as usize)
 }
 
 // The classes that a tile gives to a walk from q.
-fn tile_mask(g: Grid, q: Point, tile: u32) -> u16
-    requires { 1 ≤ g.n }
-    ensures { Allows g q tile result }
+fn tile_mask(w: &Outward<'_>, tile: u32) -> u16
+    ensures { Allows w.now.g w.now.q tile result }
 {
-    let row = tile / g.n;
-    let col = tile % g.n;
-    let qrow = grid::column(g, q.y);
-    let qcol = grid::column(g, q.x);
-    grid::allowed_mask(row, col, qrow, qcol)
+    let row = grid::column(w.g, w.q.y);
+    let col = grid::column(w.g, w.q.x);
+    grid::allowed_mask(tile / w.g.n, tile % w.g.n, row, col)
 }
 
-// A tile's runs of allowed classes are judged, and their entries counted.
-pub(crate) fn judge_tile(
-    g: Grid,
-    reg: &[u32],
-    starts: &[u32],
-    entries: &[u32],
-    q: Point,
-    tile: u32,
-) -> Tally
-    requires ready { Ready g (tables reg.now starts.now entries.now) q }
-    requires tile_bound { tile < tile_count g }
-    ensures { Judged g (tables reg.now starts.now entries.now) (allowed_runs g q tile) 16 result }
+// How many entries a tile's runs of allowed classes have, if none shows damage.
+pub(crate) fn judge_tile(w: &Outward<'_>, tile: u32) -> Option<usize>
+    requires tile_there { tile < tile_count w.now.g }
+    ensures { Judged w.now.g (lent_by w.now) (allowed_runs w.now.g w.now.q tile) 16 result }
 {
-    let mask = tile_mask(g, q, tile);
-    let mut count: usize = 0;
-    let mut class: u32 = 0;
-    while class < 16 {
-        let t = judge_class(g, reg, starts, entries, mask, tile, class);
-        if t.bad {
-            return t;
-        }
-        count += t.count;
-        class += 1;
+    let mask = tile_mask(w, tile);
+    let mut count = 0;
+    for class in 0..16 {
+        count += judge_class(w, mask, tile, class)?;
     }
-    Tally { count, bad: false }
+    Some(count)
 }
 
 // A footprint as a waiting row.
-fn footprint_row(g: Grid, reg: &[u32], q: Point, i: u32) -> Three
-    requires placed { Placed g q }
-    requires i_value { bad_entry g reg.now i ≡ false }
-    ensures { result ≡ waiting_row g reg.now q (Footprint i) }
+fn footprint_row(w: &Outward<'_>, i: u32) -> Three
+    requires may_stand { bad_entry w.now.g w.now.reg.now i ≡ false }
+    ensures { result ≡ waiting_row w.now.g w.now.reg.now w.now.q (Footprint i) }
 {
-    let a = register::footprint(g, reg, tables::wide(i));
-    let square = grid::square(grid::near::point(q), a);
-    let item = Item::Footprint(i);
-    front::encode(Row { square, item })
+    let a = register::footprint(w.g, w.reg, i as usize);
+    Three::from(Row {
+        square: grid::square(grid::near::point(w.q), a),
+        item: Item::Footprint(i),
+    })
 }
 
-// The entries from begin up to past, all of which may stand, are brought as footprints.
-fn add_part(
-    g: Grid,
-    reg: &[u32],
-    entries: &[u32],
-    q: Point,
+// Entries, all of which may stand, are brought as footprints.
+fn add_entries(
+    w: &Outward<'_>,
     front: &mut [u64],
     batch: &mut [u64],
-    f: Fill,
-    begin: usize,
-    past: usize,
-) -> Fill
+    mut f: Fill,
+    entries: &[u32],
+) -> Option<Fill>
     requires safe { Safe front.old batch.old f }
-    requires placed { Placed g q }
-    requires past_in_bounds { past ≤ length entries.now }
-    requires past_value { good_entries g reg.now (part entries.now begin past) ≡ true }
-    ensures { Filled front.new batch.new result (add_all (stands front.old batch.old f) (entry_rows g reg.now q (part entries.now begin past))) }
+    requires may_stand { good_entries w.now.g w.now.reg.now entries.now ≡ true }
+    ensures { Filled front.new batch.new result (add_all (stands front.old batch.old f) (entry_rows w.now.g w.now.reg.now w.now.q entries.now)) }
 {
-    let mut h = f;
-    let mut i = begin;
-    while i < past {
-        let t = footprint_row(g, reg, q, entries[i]);
-        h = add(front, batch, h, t);
-        i += 1;
+    for i in entries {
+        f = add(front, batch, f, footprint_row(w, *i))?;
     }
-    h
+    Some(f)
 }
 
 // The run of a class in a tile, which shows no damage, is brought if the mask allows the class.
 fn add_class(
-    g: Grid,
-    reg: &[u32],
-    starts: &[u32],
-    entries: &[u32],
-    q: Point,
+    w: &Outward<'_>,
     front: &mut [u64],
     batch: &mut [u64],
     f: Fill,
     mask: u16,
     tile: u32,
     class: u32,
-) -> Fill
+) -> Option<Fill>
     requires safe { Safe front.old batch.old f }
-    requires placed { Placed g q }
-    requires class_in_bounds { 16 * tile + class + 1 < length starts.now }
-    requires class_value { good_runs g (tables reg.now starts.now entries.now) (keep (is_on mask class) (16 * tile + class) []) ≡ true }
-    ensures { Filled front.new batch.new result (add_all (stands front.old batch.old f) (run_rows g (tables reg.now starts.now entries.now) q (keep (is_on mask class) (16 * tile + class) []))) }
+    requires run_there { 16 * tile + class + 1 < length w.now.starts.now }
+    requires no_damage { good_runs w.now.g (lent_by w.now) (keep (is_on mask class) (16 * tile + class) []) ≡ true }
+    ensures { Filled front.new batch.new result (add_all (stands front.old batch.old f) (run_rows w.now.g (lent_by w.now) w.now.q (keep (is_on mask class) (16 * tile + class) []))) }
 {
-    if grid::is_on(mask, class) {
-        let k = 16 * tables::wide(tile) + tables::wide(class);
-        let begin = tables::wide(starts[k]);
-        let past = tables::wide(starts[k + 1]);
-        return add_part(g, reg, entries, q, front, batch, f, begin, past);
+    if !grid::is_on(mask, class) {
+        return Some(f);
     }
-    f
+    let k = 16 * tile as usize + class as usize;
+    let run = &w.entries[w.starts[k] as usize..w.starts[k + 1] as usize];
+    add_entries(w, front, batch, f, run)
 }
 
 // The footprints of a tile's allowed classes, whose runs show no damage, are brought.
 pub(crate) fn add_tile(
-    g: Grid,
-    reg: &[u32],
-    starts: &[u32],
-    entries: &[u32],
-    q: Point,
+    w: &Outward<'_>,
     front: &mut [u64],
     batch: &mut [u64],
-    f: Fill,
+    mut f: Fill,
     tile: u32,
-) -> Fill
+) -> Option<Fill>
     requires safe { Safe front.old batch.old f }
-    requires ready { Ready g (tables reg.now starts.now entries.now) q }
-    requires tile_bound { tile < tile_count g }
-    requires tile_value { good_runs g (tables reg.now starts.now entries.now) (allowed_runs g q tile) ≡ true }
-    ensures { Filled front.new batch.new result (add_all (stands front.old batch.old f) (run_rows g (tables reg.now starts.now entries.now) q (allowed_runs g q tile))) }
+    requires tile_there { tile < tile_count w.now.g }
+    requires no_damage { good_runs w.now.g (lent_by w.now) (allowed_runs w.now.g w.now.q tile) ≡ true }
+    ensures { Filled front.new batch.new result (add_all (stands front.old batch.old f) (run_rows w.now.g (lent_by w.now) w.now.q (allowed_runs w.now.g w.now.q tile))) }
 {
-    let mask = tile_mask(g, q, tile);
-    let mut h = f;
-    let mut class: u32 = 0;
-    while class < 16 {
-        h = add_class(
-            g, reg, starts, entries, q, front, batch, h, mask, tile, class,
-        );
-        class += 1;
+    let mask = tile_mask(w, tile);
+    for class in 0..16 {
+        f = add_class(w, front, batch, f, mask, tile, class)?;
     }
-    h
+    Some(f)
 }
 
 // A tile brings the footprints of its allowed classes; no such tile and a damaged run are damage.
 pub(crate) fn open_tile(
-    g: Grid,
-    reg: &[u32],
-    starts: &[u32],
-    entries: &[u32],
-    q: Point,
+    w: &Outward<'_>,
     front: &mut [u64],
     batch: &mut [u64],
     f: Fill,
     tile: u32,
-) -> Fill
+) -> Option<Fill>
     requires safe { Safe front.old batch.old f }
-    requires ready { Ready g (tables reg.now starts.now entries.now) q }
-    ensures { Filled front.new batch.new result (brought (stands front.old batch.old f) (leb (tile_count g) tile || not (good_runs g (tables reg.now starts.now entries.now) (allowed_runs g q tile))) (map (waiting_row g reg.now q) (tile_brings g (tables reg.now starts.now entries.now) q tile))) }
+    ensures { Filled front.new batch.new result (brought (stands front.old batch.old f) (leb (tile_count w.now.g) tile || not (good_runs w.now.g (lent_by w.now) (allowed_runs w.now.g w.now.q tile))) (map (waiting_row w.now.g w.now.reg.now w.now.q) (tile_brings w.now.g (lent_by w.now) w.now.q tile))) }
 {
-    if grid::tile_count(g) <= tables::wide(tile) {
-        return spoil(f);
+    if grid::tile_count(w.g) <= tile as usize {
+        return None;
     }
-    let t = judge_tile(g, reg, starts, entries, q, tile);
-    if t.bad {
-        return spoil(f);
-    }
-    add_tile(g, reg, starts, entries, q, front, batch, f, tile)
+    judge_tile(w, tile)?;
+    add_tile(w, front, batch, f, tile)
 }

@@ -5,17 +5,78 @@
 
 ghost use Rattle.std.specs.Prelude.{◌+◌, ◌*◌, ◌≤◌, length, IfOk};
 
-use rules::{Answer, Grid, Refusal};
-use sheet::{Limits, Sheet};
-use std::io;
-use std::io::{Read, Write};
+use rules::{Grid, Refusal};
+use sheet::Page;
+use std::io::{self, Read, Write};
 
-// Writes the first bytes of an output.
-fn print<W: Write>(output: &mut W, out: &[u8], count: usize) -> io::Result<()> {
-    if count <= out.len() {
-        output.write_all(&out[..count])?;
+// The starts of 16 runs for each of the most tiles, and the most entries.
+const STARTS: usize = 16 * (sheet::MOST_TILES * sheet::MOST_TILES) as usize + 1;
+
+const ENTRIES: usize = 8192;
+
+// The most hits of a question, and the most bytes that it prints.
+const HITS: usize = sheet::MOST_FOOTPRINTS as usize;
+
+const OUTPUT: usize = 16384;
+
+// Why the program ends before its last question: a refusal, which is still to print, or a read or a write that fails.
+#[derive(Drop)]
+enum Stop {
+    Refused(Refusal),
+    Failed(io::Error),
+}
+
+impl From<Refusal> for Stop {
+    fn from(why: Refusal) -> Stop {
+        Stop::Refused(why)
     }
-    Ok(())
+}
+
+impl From<io::Error> for Stop {
+    fn from(error: io::Error) -> Stop {
+        Stop::Failed(error)
+    }
+}
+
+// A register and its index.
+#[derive(Clone, Copy)]
+struct Yard<'a> {
+    g: Grid,
+    reg: &'a [u32],
+    starts: &'a [u32],
+    entries: &'a [u32],
+}
+
+impl Yard<'_> {
+    // Answers and prints one question, and says whether it was refused.
+    fn ask<W: Write>(&self, output: &mut W, x: u32, y: u32, r: u32) -> io::Result<bool> {
+        let mut hits = [0u32; HITS];
+        let mut out = [0u8; OUTPUT];
+        let answer = answers::answer(
+            self.g,
+            self.reg,
+            self.starts,
+            self.entries,
+            x,
+            y,
+            r,
+            &mut hits,
+            &mut out,
+        );
+        let (Ok(count) | Err(count)) = answer;
+        output.write_all(&out[..count])?;
+        Ok(answer.is_err())
+    }
+
+    // Asks questions of three numbers each, until one is refused.
+    fn ask_all<W: Write>(&self, output: &mut W, questions: &[u32]) -> io::Result<()> {
+        for question in questions.chunks_exact(3) {
+            if self.ask(output, question[0], question[1], question[2])? {
+                break;
+            }
+        }
+        Ok(())
+    }
 }
 
 // Reads until the text is full or the input ends, and says how many bytes of the text are read. After a read that fails what was read is
@@ -34,138 +95,56 @@ fn read_full<R: Read>(input: &mut R, text: &mut [u8]) -> io::Result<usize>
     Ok(count)
 }
 
-// Prints a refusal, which has 26 bytes at most.
-fn refuse<W: Write>(output: &mut W, why: Refusal) -> io::Result<()> {
-    let mut out = [0u8; 64];
-    let count = sheet::put_refusal(&mut out, 0, why);
-    print(output, &out, count)
-}
-
-// Answers and prints one question, and says whether it was refused.
-fn ask<W: Write>(
-    output: &mut W,
-    g: Grid,
-    reg: &[u32],
-    starts: &[u32],
-    entries: &[u32],
-    x: u32,
-    y: u32,
-    r: u32,
-) -> io::Result<bool> {
-    let mut hits = [0u32; 512];
-    let mut out = [0u8; 16384];
-    let a = answers::answer(g, reg, starts, entries, x, y, r, &mut hits, &mut out);
-    print(output, &out, a.length)?;
-    Ok(a.refused)
-}
-
-// Asks the questions that stand among the first numbers from a place on, three numbers each, until one is refused.
-fn ask_all<W: Write>(
-    output: &mut W,
-    g: Grid,
-    reg: &[u32],
-    starts: &[u32],
-    entries: &[u32],
-    numbers: &[u32],
-    begin: usize,
-    count: usize,
-) -> io::Result<()>
-    requires { (begin ≤ count) × (count ≤ length numbers.now) }
-{
-    let mut at = begin;
-    while 3 <= count - at {
-        if ask(
-            output,
-            g,
-            reg,
-            starts,
-            entries,
-            numbers[at],
-            numbers[at + 1],
-            numbers[at + 2],
-        )? {
-            return Ok(());
-        }
-        at += 3;
-    }
-    Ok(())
-}
-
-// Builds the index of a register, and asks the questions that stand among the first numbers from a place on.
-fn build<W: Write>(
-    output: &mut W,
-    g: Grid,
-    reg: &[u32],
-    starts: &mut [u32],
-    entries: &mut [u32],
-    numbers: &[u32],
-    behind: usize,
-    count: usize,
-) -> io::Result<()>
-    requires { (behind ≤ count) × (count ≤ length numbers.now) }
-{
-    match index::build(g, reg, starts, entries) {
-        Answer::Refused(why) => refuse(output, why),
-        Answer::Done(_) => ask_all(output, g, reg, starts, entries, numbers, behind, count),
-    }
-}
-
-// The register stands among the numbers behind n and side, and the questions behind it. Of the starts, which have room for 16 by 16
-// tiles, the build is lent as many as the grid needs.
-fn lend<W: Write>(
-    output: &mut W,
-    g: Grid,
-    numbers: &[u32],
-    count: usize,
-    footprints: usize,
-    starts: &mut [u32],
-    entries: &mut [u32],
-) -> io::Result<()>
-    requires n_bound { g.n ≤ 16 }
-    requires footprints_bound { (2 + 4 * footprints ≤ count) × (count ≤ length numbers.now) }
-    requires in_bounds { 4097 ≤ length starts.old }
-{
-    let used = 16 * grid::tile_count(g) + 1;
-    let begin = 2;
-    let behind = 2 + 4 * footprints;
-    build(
-        output,
-        g,
-        &numbers[begin..behind],
-        &mut starts[..used],
-        entries,
-        numbers,
-        behind,
-        count,
-    )
-}
-
-// A good text: its numbers are n, side, the register and the questions.
-fn run<W: Write>(output: &mut W, numbers: &[u32], count: usize, footprints: u32) -> io::Result<()>
-    requires { (2 + 4 * footprints ≤ count) × (count ≤ length numbers.now) }
+// Answers a good text: its numbers are n, side, the register and the questions. Of the starts the build is lent as many as the grid needs.
+fn answer_all<W: Write>(output: &mut W, numbers: &[u32], footprints: u32) -> Result<(), Stop>
+    requires { 2 + 4 * footprints ≤ length numbers.now }
 {
     let g = Grid {
         n: numbers[0],
         side: numbers[1],
     };
-    match sheet::within(g, footprints) {
-        Limits::Refused(why) => refuse(output, why),
-        Limits::Within => {
-            let mut starts = [0u32; 4097];
-            let mut entries = [0u32; 8192];
-            let all = tables::wide(footprints);
-            lend(output, g, numbers, count, all, &mut starts, &mut entries)
-        }
-    }
+    sheet::within(g, footprints)?;
+    let (reg, questions) = numbers[2..].split_at(4 * footprints as usize);
+    let mut starts = [0u32; STARTS];
+    let mut entries = [0u32; ENTRIES];
+    let starts = &mut starts[..16 * grid::tile_count(g) + 1];
+    index::build(g, reg, starts, &mut entries)?;
+    let yard = Yard {
+        g,
+        reg,
+        starts,
+        entries: &entries,
+    };
+    yard.ask_all(output, questions)?;
+    Ok(())
+}
+
+// Reads a text, judges it whole, and answers it.
+fn run<R: Read, W: Write>(input: &mut R, output: &mut W) -> Result<(), Stop> {
+    let mut text = [0u8; sheet::MOST_BYTES + 1];
+    let mut numbers = [0u32; sheet::MOST_NUMBERS];
+    let count = read_full(input, &mut text)?;
+    let said = sheet::judge(&text[..count], &mut numbers)?;
+    answer_all(output, &numbers[..said.numbers], said.footprints)
+}
+
+// Prints a refusal, which has 26 bytes at most.
+fn refuse<W: Write>(output: &mut W, why: Refusal) -> io::Result<()> {
+    let mut out = [0u8; 64];
+    let mut page = Page {
+        out: &mut out,
+        at: 0,
+    };
+    page.put_refusal(why);
+    let count = page.at;
+    output.write_all(&out[..count])
 }
 
 fn main(rt: HostRuntime) -> io::Result<()> {
-    let mut text = [0u8; 65537];
-    let mut numbers = [0u32; 16384];
     let mut output = rt.stdout();
-    let count = read_full(&mut rt.stdin(), &mut text)?;
-    match sheet::judge(&text[..count], &mut numbers) {
-        Sheet::Refused(why) => refuse(&mut output, why),
-        Sheet::Good(said, footprints) => run(&mut output, &numbers, said, footprints),
+    match run(&mut rt.stdin(), &mut output) {
+        Ok(()) => Ok(()),
+        Err(Stop::Refused(why)) => refuse(&mut output, why),
+        Err(Stop::Failed(error)) => Err(error),
     }
 }

@@ -1,7 +1,5 @@
 -- `grid::is_on` meets its contract: the shift is the division; past sixteen bits a mask has none. Assumes nothing.
-use mathlib.Core.Path.{◌≡◌, refl, sym}
-use mathlib.Core.Bool.{false}
-use Prim.Native.Nat.{ℕ, ◌<◌, ◌≤◌, ◌^◌}
+use Rattle.std.proofs.Common.{◌≡◌, ℕ, ◌<◌, ◌≤◌, ◌^◌, false, rules}
 use native.Mathlib.Nat.{div-eq_of_lt, lt_of_lt_of_le}
 use lib.Pow.{pow_mono}
 use Rattle.grid.specs.Places.{is_on}
@@ -13,7 +11,7 @@ past m k h l = simp (div-eq_of_lt (lt_of_lt_of_le h (pow_mono l)))
 
 pub returns-then-k-lt16 : goal.returns-then-k-lt16
 unfolding is_on
-returns-then-k-lt16 c = refl
+returns-then-k-lt16 c = search rules
 
-pub returns : goal.returns
-returns c = sym (past _ _ c.ranges.mask.fits c.if-k-lt16.false)
+pub returns-else-k-lt16 : goal.returns-else-k-lt16
+returns-else-k-lt16 c = let e = past c.args.mask c.args.k c.ranges.mask.fits c.if-k-lt16.false in search rules

@@ -1,12 +1,12 @@
 -- `grid::meets` meets its contract. Assumes nothing.
-use borrow.Author.Tests.{le-leb, lt-leb}
+use Rattle.std.proofs.Common.{rules}
 use Rattle.rules.specs.Span.{meets}
 use Rattle.grid.proofs.meets.Goals as goal
 
-pub returns-then-a-b : goal.returns-then-a-b
+pub returns-then-b-a : goal.returns-then-b-a
 unfolding meets
-returns-then-a-b c = rw (lt-leb c.args.b.lo c.args.a.hi c.if-a-b.true)
+returns-then-b-a c = search rules
 
-pub returns : goal.returns
+pub returns-else-b-a : goal.returns-else-b-a
 unfolding meets
-returns c = rw (le-leb c.args.b.lo c.args.a.hi c.if-a-b.false)
+returns-else-b-a c = search rules

@@ -1,17 +1,16 @@
 -- `grid::place` meets its contract. Assumes nothing.
-use borrow.Author.Tests.{lt-ltb, le-ltb}
+use Rattle.std.proofs.Common.{rules}
 use Rattle.rules.specs.Span.{place}
-use native.Mathlib.Omega.{arith}
 use Rattle.grid.proofs.place.Goals as goal
 
-pub returns-then-c-d : goal.returns-then-c-d
+pub returns-in-Less : goal.returns-in-Less
 unfolding place
-returns-then-c-d c = (simp (lt-ltb _ _ c.if-c-d.true), omega arith)
+returns-in-Less c = search rules
 
-pub returns-then-d-c : goal.returns-then-d-c
+pub returns-in-Equal : goal.returns-in-Equal
 unfolding place
-returns-then-d-c c = (simp (le-ltb _ _ c.if-c-d.false, lt-ltb _ _ c.if-d-c.true), omega arith)
+returns-in-Equal c = search rules
 
-pub returns : goal.returns
+pub returns-in-Greater : goal.returns-in-Greater
 unfolding place
-returns c = (simp (le-ltb _ _ c.if-c-d.false, le-ltb _ _ c.if-d-c.false), omega arith)
+returns-in-Greater c = search rules

@@ -3,47 +3,37 @@ use mathlib.Core.Path.{◌≡◌}
 use mathlib.Core.List.{List}
 use Prim.Native.Nat.{◌≤◌}
 use lib.ListN.{length}
-use Rattle.rules.specs.Tables.{Tables, tables}
 use Rattle.rules.specs.Join.{Pair, join_pairs}
 use Rattle.rules.proofs.JoinCount.{few_pairs}
 use Rattle.join.specs.Keeping.{most_pairs}
 use Rattle.join.proofs.Writing.{found_all, no_room, copied, laid}
 use native.Mathlib.Omega.{arith}
-use Rattle.join.proofs.write.Goals.{After-all-found, Start}
+use Rattle.join.proofs.write.Goals.{After-pairs-found, Start}
 use Rattle.join.proofs.write.Goals as goal
 
-abbrev side-r : Start → Tables
-side-r c = tables c.args.reg_r.now c.args.starts_r.now c.args.entries_r.now
+abbrev all-pairs : After-pairs-found → List Pair
+all-pairs c = let s = c.args.sides.now in join_pairs s.g s.left s.right s.r
 
-abbrev side-s : Start → Tables
-side-s c = tables c.args.reg_s.now c.args.starts_s.now c.args.entries_s.now
+all_found : (c : After-pairs-found) → c.pairs-found.result ≡ length (all-pairs c)
+all_found c = found_all _ _ _ _ c.pairs-found.ensures
 
-abbrev all-pairs : Start → List Pair
-all-pairs c = join_pairs c.args.g (side-r c) (side-s c) c.args.r
-
-abbrev side-r_in_after_all_found : After-all-found → Tables
-side-r_in_after_all_found c = tables c.args.reg_r.now c.args.starts_r.now c.args.entries_r.now
-
-abbrev side-s_in_after_all_found : After-all-found → Tables
-side-s_in_after_all_found c = tables c.args.reg_s.now c.args.starts_s.now c.args.entries_s.now
-
-abbrev all-pairs_in_after_all_found : After-all-found → List Pair
-all-pairs_in_after_all_found c = join_pairs c.args.g (side-r_in_after_all_found c) (side-s_in_after_all_found c) c.args.r
-
-all_found : (c : After-all-found) → c.all-found.result ≡ length (all-pairs_in_after_all_found c)
-all_found c = found_all _ _ _ _ c.all-found.ensures
-
-few : (c : After-all-found) → c.all-found.result ≤ most_pairs
-few c = rw (all_found c) (few_pairs c.args.g (side-r_in_after_all_found c) (side-s_in_after_all_found c) c.args.r c.requires.of_r.all_good c.requires.of_s.all_good)
+few : (c : After-pairs-found) → c.pairs-found.result ≤ most_pairs
+few c = let s = c.args.sides.now in rw (all_found c) (few_pairs s.g s.left s.right s.r s.judged.of_r.all_good s.judged.of_s.all_good)
 
 pub overflow_mul-need : goal.overflow_mul-need
-overflow_mul-need c = omega (arith, few (goal.at.overflow_mul-need c).After-all-found)
+overflow_mul-need c = omega (arith, few (goal.at.overflow_mul-need c).After-pairs-found)
 
 pub returns-then-out-need : goal.returns-then-out-need
-returns-then-out-need c = no_room (all-pairs (goal.at.returns-then-out-need c).Start) c.args.out.now c.all-found.result (all_found (goal.at.returns-then-out-need c).After-all-found) (omega (arith, c.if-out-need.true))
+returns-then-out-need c =
+    let found = (goal.at.returns-then-out-need c).After-pairs-found in
+    no_room (all-pairs found) c.args.out.now c.pairs-found.result (all_found found) (omega (arith, c.if-out-need.true))
 
 pub returns-then-need : goal.returns-then-need
-returns-then-need c = copied (all-pairs (goal.at.returns-then-need c).Start) c.args.out.now c.all-found.result _ _ _ c.all-found.ensures (omega arith) (omega arith) c.copy.ensures
+returns-then-need c =
+    copied (all-pairs (goal.at.returns-then-need c).After-pairs-found) c.args.out.now c.pairs-found.result _ _ _ c.pairs-found.ensures (omega arith) (omega arith)
+    (rw c.copy_from_slice.ensures.after)
 
-pub returns : goal.returns
-returns c = laid (all-pairs (goal.at.returns c).Start) c.args.out.now c.all-found.result _ (all_found (goal.at.returns c).After-all-found) (omega arith) _ c.all.ensures
+pub returns-else-need : goal.returns-else-need
+returns-else-need c =
+    let found = (goal.at.returns-else-need c).After-pairs-found in
+    laid (all-pairs found) c.args.out.now c.pairs-found.result _ (all_found found) (omega arith) _ c.pairs.ensures

@@ -7,11 +7,11 @@ use Rattle.ports.proofs.luv_run_n.Goals as goal
 pub overflow_sub-value : goal.overflow_sub-value
 overflow_sub-value c =
     let a = c.args in
-    (part_good _ a.starts.now a.entries.now a.tile a.class a.entries.ref_ptr _ _ c.in-At.ensures).0
+    (part_good _ a.starts.now a.entries.now a.tile a.class a.entries.ref_ptr _ _ c.in-Ok.ensures).0
 
-pub returns-in-At : goal.returns-in-At
-returns-in-At c = run_at _ _ _ c.in-At.ensures
+pub returns-in-Ok : goal.returns-in-Ok
+returns-in-Ok c = run_at _ _ c.in-Ok.ensures
 
-pub returns-in-Refused : goal.returns-in-Refused
+pub returns-in-Err : goal.returns-in-Err
 unfolding paper_ends
-returns-in-Refused c = run_refused _ c.in-Refused.why _ c.told_refusal.ensures c.in-Refused.ensures
+returns-in-Err c = run_refused _ c.in-Err.why _ c.from.ensures c.in-Err.ensures

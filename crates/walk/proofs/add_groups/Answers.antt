@@ -1,25 +1,22 @@
--- `walk::add_groups` meets its contract: the four directions one after the other. Assumes nothing.
-use Rattle.walk.specs.Fill.{stands}
-use Rattle.walk.proofs.Adding.{refilled}
-use Rattle.walk.proofs.Starting.{four_steps}
+-- `walk::add_groups` meets its contract: what stands, with the groups that are left brought to it, is the whole. Assumes nothing.
+use Rattle.walk.proofs.Bringing.{bring_some, some_lost, bring_none}
+use Rattle.walk.proofs.Starting.{groups_next, groups_none}
 use Rattle.walk.proofs.add_groups.Goals as goal
 
-pub add_group-requires : goal.add_group-requires
-add_group-requires c =
-    let add-group3 = c.add_group-down in
-    let pre = c.requires in record {
-      safe = add-group3.ensures.safe;
-      placed = pre.placed;
-    }
+pub returns-in_err-f : goal.returns-in_err-f
+returns-in_err-f c =
+    let a = c.args in
+    let loop = c.loop-d in
+    rw c.from_residual.ensures (some_lost loop.invariant _ _ (groups_next a.w.now.g a.w.now.q _ loop.d-index c.loop-d-test.true) c.in_err-f.ensures)
+
+pub loop-d-preserved : goal.loop-d-preserved
+loop-d-preserved c =
+    let a = c.args in
+    let loop = c.loop-d in
+    bring_some loop.invariant _ _ (groups_next a.w.now.g a.w.now.q _ loop.d-index c.loop-d-test.true) c.in_ok-f.ensures
 
 pub returns : goal.returns
 returns c =
-    let add-group4 = c.add_group in
     let a = c.args in
-    let add-group = c.add_group-up in
-    let add-group2 = c.add_group-right in
-    let add-group3 = c.add_group-down in
-    refilled add-group4.new.front add-group4.new.batch add-group4.result _ _ add-group4.ensures
-    (four_steps a.g a.q (stands a.front.now a.batch.now a.f) (stands add-group.new.front add-group.new.batch add-group.result)
-    (stands add-group2.new.front add-group2.new.batch add-group2.result) (stands add-group3.new.front add-group3.new.batch add-group3.result)
-    add-group.ensures.is add-group2.ensures.is add-group3.ensures.is)
+    let loop = c.loop-d in
+    bring_none loop.invariant (groups_none a.w.now.g a.w.now.q loop.d-index c.loop-d-test.false)

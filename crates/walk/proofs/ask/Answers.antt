@@ -9,6 +9,7 @@ use Rattle.walk.proofs.Near.{lengths_alone}
 use Rattle.walk.proofs.Asking.{ask_sizes, ask_lengths, ask_place, ask_short, ask_refused, ask_marked, ask_beyond, ask_fine}
 use native.Mathlib.Omega.{arith}
 use Rattle.walk.proofs.ask.Goals.{Else-bad_lengths, Else-bad_point, Else-bad_sizes}
+use Rattle.walk.proofs.ask.Goals.{then-walk-via-then-walk, then-walk-via-else-walk+then-whole-walk}
 use Rattle.walk.proofs.ask.Goals as goal
 
 sizes : (c : Else-bad_sizes) → bad_sizes c.args.g ≡ false
@@ -53,38 +54,20 @@ returns-then-out-need c =
 pub returns-then-walk : goal.returns-then-walk
 returns-then-walk c =
     let a = c.args in
-    let spoil-ask = c.spoil_ask in
-    let if4 = c.if-out-need in
-    let if5 = c.if-walk in
     let lent = tables a.reg.now a.starts.now a.entries.now in
-    spoil-ask.ensures ∙ ask_marked a.g lent a.front.now a.walk a.j a.out.now (sizes (goal.at.returns-then-walk c).Else-bad_sizes) (lengths (goal.at.returns-then-walk c).Else-bad_lengths) (point (goal.at.returns-then-walk c).Else-bad_point) if4.false if5.true
+    let is_sized = sizes (goal.at.returns-then-walk c).Else-bad_sizes in
+    let of_lengths = lengths (goal.at.returns-then-walk c).Else-bad_lengths in
+    let on = point (goal.at.returns-then-walk c).Else-bad_point in
+    c.spoil_ask.ensures ∙ elim c.then-walk.branch [
+      | then-walk-via-then-walk w ↦ ask_marked a.g lent a.front.now a.walk a.j a.out.now is_sized of_lengths on c.if-out-need.false w.if-walk.true
+      | then-walk-via-else-walk+then-whole-walk w ↦ ask_beyond a.g lent a.front.now a.walk a.j a.out.now is_sized of_lengths on c.if-out-need.false w.if-walk.false (omega (arith, w.whole.ensures, w.if-whole-walk.true))
+    ]
 
-pub returns-then-whole-walk : goal.returns-then-whole-walk
-returns-then-whole-walk c =
-    let a = c.args in
-    let spoil-ask2 = c.spoil_ask-then-whole-walk in
-    let if4 = c.if-out-need in
-    let if5 = c.if-walk in
-    let whole = c.whole in
-    let if6 = c.if-whole-walk in
-    let lent = tables a.reg.now a.starts.now a.entries.now in
-    spoil-ask2.ensures ∙ ask_beyond a.g lent a.front.now a.walk a.j a.out.now (sizes (goal.at.returns-then-whole-walk c).Else-bad_sizes) (lengths (goal.at.returns-then-whole-walk c).Else-bad_lengths) (point (goal.at.returns-then-whole-walk c).Else-bad_point) if4.false if5.false (omega (arith, whole.ensures, if6.true))
-
-pub ask_rows-requires : goal.ask_rows-requires
-ask_rows-requires c =
-    let whole = c.whole in
-    let if4 = c.if-out-need in record {
-      ready = record { placed = record { sizes = sizes (goal.at.ask_rows-requires c).Else-bad_sizes; point = point (goal.at.ask_rows-requires c).Else-bad_point }; lengths = lengths (goal.at.ask_rows-requires c).Else-bad_lengths };
-      waiting_in_bounds = (omega (arith, whole.ensures, c.if-whole-walk.false), if4.false);
-    }
+pub invariant_of-w-clause-lengths : goal.invariant_of-w-clause-lengths
+invariant_of-w-clause-lengths c = lengths (goal.at.invariant_of-w-clause-lengths c).Else-bad_lengths
 
 pub returns : goal.returns
 returns c =
     let a = c.args in
-    let ask-rows = c.ask_rows in
-    let if4 = c.if-out-need in
-    let if5 = c.if-walk in
-    let whole = c.whole in
-    let if6 = c.if-whole-walk in
     let lent = tables a.reg.now a.starts.now a.entries.now in
-    ask-rows.ensures ∙ ask_fine a.g lent a.front.now a.walk a.j a.out.now (sizes (goal.at.returns c).Else-bad_sizes) (lengths (goal.at.returns c).Else-bad_lengths) (point (goal.at.returns c).Else-bad_point) if4.false if5.false (omega (arith, whole.ensures, if6.false))
+    c.ask_rows.ensures ∙ ask_fine a.g lent a.front.now a.walk a.j a.out.now (sizes (goal.at.returns c).Else-bad_sizes) (lengths (goal.at.returns c).Else-bad_lengths) (point (goal.at.returns c).Else-bad_point) c.if-out-need.false c.if-walk.false (omega (arith, c.whole.ensures, c.if-whole-walk.false))

@@ -1,36 +1,25 @@
 -- `index::whole::check` meets its contract: refused as judged, else yes exactly where the tables are what the build leaves. Assumes nothing.
-use mathlib.Core.Path.{◌≡◌, sym, ap, ◌∙◌}
-use Rattle.rules.specs.Refusals.{pass}
-use Rattle.rules.specs.Build.{register_verdict}
-use Rattle.rules.proofs.Good.{good_sizes, few_footprints}
-use Rattle.index.specs.Judged.{verdict}
-use Rattle.index.proofs.Verdict.{accepted, accepted_lies, starts_stand, check_refused, check_yes, check_no}
-use Rattle.index.proofs.whole.check.Goals.{In-Passed}
+use mathlib.Core.Path.{sym, ap₂, ◌∙◌}
+use mathlib.Core.List.{List}
+use Prim.Native.Nat.{ℕ}
+use Rattle.std.proofs.lemmas.Result.{err_from_is_err_and}
+use Rattle.rules.specs.declared.Grid.{Grid}
+use Rattle.index.specs.Check.{is_right}
+use Rattle.index.proofs.Right.{right_is_built}
+use Rattle.index.proofs.Verdict.{check_refused, check_done}
 use Rattle.index.proofs.whole.check.Goals as goal
 
-passed : (c : In-Passed) → register_verdict c.args.g c.args.reg.now c.args.starts.now pass ≡ pass
-passed c = sym c.judge.ensures ∙ ap verdict c.in-Passed.is
-
-pub returns-in-Refused : goal.returns-in-Refused
-returns-in-Refused c =
-    let a = c.args in
-    check_refused a.g a.reg.now a.starts.now a.entries.now c.in-Refused.why (sym c.judge.ensures ∙ ap verdict c.in-Refused.is)
-
-pub is_built-requires : goal.is_built-requires
-is_built-requires c =
-    let g = c.args.g in
-    let reg = c.args.reg.now in
-    let starts = c.args.starts.now in
-    let p = passed c in
-    let a = accepted g reg starts p in
-    let s = good_sizes g a.sizes in record {
-      le_n = (s.n_pos, s.n_most, s.side_pos, s.side_most, starts_stand g reg starts p);
-      reg_bound = few_footprints g reg a;
-      by_index = accepted_lies g reg starts p;
-    }
-
-pub returns-then-is_built : goal.returns-then-is_built
-returns-then-is_built c = check_yes c.args.g c.args.reg.now c.args.starts.now c.args.entries.now (passed (goal.at.returns-then-is_built c).In-Passed) (sym c.is_built.ensures ∙ c.if-is_built.true)
+pub returns-in_err-judged : goal.returns-in_err-judged
+returns-in_err-judged form c =
+    let p = err_from_is_err_and c.from_residual.result c.from_residual.ensures.1 in
+    rw (p.1, p.2)
+    (check_refused c.args.g (form.F.Form.numbers c.args.reg.now) (form.F.Form.numbers c.args.starts.now) (form.F.Form.numbers c.args.entries.now) c.in_err-judged.field-0.0 (sym c.in_err-judged.ensures.judges))
 
 pub returns : goal.returns
-returns c = check_no c.args.g c.args.reg.now c.args.starts.now c.args.entries.now (passed (goal.at.returns c).In-Passed) (sym c.is_built.ensures ∙ c.if-is_built.false)
+returns form c =
+    let reg = form.F.Form.numbers c.args.reg.now in
+    let starts = form.F.Form.numbers c.args.starts.now in
+    let entries = form.F.Form.numbers c.args.entries.now in
+    let k = c.in_ok-judged.ensures.keeps in
+    check_done c.args.g reg starts entries (sym c.in_ok-judged.ensures.judges) c.is_right.result
+    (c.is_right.ensures ∙ ap₂ (λ (g : Grid) (r : List ℕ). is_right g r starts entries) k.0 k.1 ∙ right_is_built c.args.g reg starts entries k.2)

@@ -1,113 +1,36 @@
--- `lines::line_at` meets its contract. Assumes nothing.
-use mathlib.Core.Path.{sym, ap, ◌∙◌}
-use Rattle.rules.specs.Text.{word, follow}
-use Rattle.sheet.specs.Places.{key_of, read_at}
-use Rattle.sheet.specs.declared.Key.{Key}
-use native.Mathlib.Omega.{arith}
+use Rattle.std.proofs.Common.{arith, ◌≡◌, ◌∙◌, drop, ap₂, sym}
+use Rattle.std.proofs.lemmas.Grind.{common_steps}
+use Rattle.rules.proofs.Counted.{follow_wordy}
+use Rattle.rules.specs.Text.{word, begins_with}
+use Rattle.sheet.specs.Places.{key_of}
+use Rattle.sheet.specs.declared.lines.Key.TheVariants.{Start}
+use Rattle.sheet.proofs.Words.{begins_so, read_past, here, this_key, other_key, no_key}
+-- what was tested is whether the key's word stands at the place
+use Rattle.sheet.proofs.lines.line_at.Goals.{After-starts_with}
 use Rattle.sheet.proofs.lines.line_at.Goals as goal
 
-pub only-requires : goal.only-requires
-unfolding word key_of
-only-requires c = omega arith
+tested : (c : After-starts_with) → c.starts_with.result ≡ begins_with (word (here c.followers-key-items.result.now c.loop-key.key-index Start)) (drop c.args.at c.args.text.now)
+tested c =
+    let e : c.in_ok-rest.rest.now ≡ drop c.args.at c.args.text.now = grind (arith, common_steps) in
+    c.starts_with.ensures.value ∙ begins_so c.word-word.result.now c.in_ok-rest.rest.now ∙ ap₂ begins_with c.word-word.ensures e
 
-pub only-requires-in-Tiles : goal.only-requires-in-Tiles
-unfolding word key_of
-only-requires-in-Tiles c = omega arith
+pub returns-in_err-rest : goal.returns-in_err-rest
+returns-in_err-rest c = c.from_residual.ensures ∙ read_past _ c.args.text.now c.args.at (follow_wordy (key_of c.args.last)) (omega (arith, c.in_err-rest.ensures.lookup))
 
-pub either-requires : goal.either-requires
-unfolding word key_of
-either-requires c = record {
-  nonzero = omega arith;
-  nonzero_2 = omega arith;
-}
-
-pub only-requires-in-Xlo : goal.only-requires-in-Xlo
-unfolding word key_of
-only-requires-in-Xlo c = omega arith
-
-pub only-requires-in-Ylo : goal.only-requires-in-Ylo
-unfolding word key_of
-only-requires-in-Ylo c = omega arith
-
-pub only-requires-in-Xhi : goal.only-requires-in-Xhi
-unfolding word key_of
-only-requires-in-Xhi c = omega arith
-
-pub either-requires-in-Yhi : goal.either-requires-in-Yhi
-unfolding word key_of
-either-requires-in-Yhi c = record {
-  nonzero = omega arith;
-  nonzero_2 = omega arith;
-}
-
-pub only-requires-in-X : goal.only-requires-in-X
-unfolding word key_of
-only-requires-in-X c = omega arith
-
-pub only-requires-in-Y : goal.only-requires-in-Y
-unfolding word key_of
-only-requires-in-Y c = omega arith
-
-pub only-requires-in-R : goal.only-requires-in-R
-unfolding word key_of
-only-requires-in-R c = omega arith
-
-pub returns-in-Start : goal.returns-in-Start
-unfolding follow key_of
-returns-in-Start c =
+pub returns-then-starts_with : goal.returns-then-starts_with
+returns-then-starts_with c =
     let a = c.args in
-    c.only.ensures ∙ ap (λ (k : Key). read_at (follow (key_of k)) a.text.now a.at) (sym c.in-Start.is)
+    let t = tested (goal.at.returns-then-starts_with c).After-starts_with in
+    rw c.word-word.ensures at c.number_line.ensures
+    ∙ this_key c.followers-key-items.result.now c.loop-key.key-index Start c.loop-key-test.true a.text.now a.at (sym t ∙ c.if-starts_with.true)
+    ∙ c.loop-key.invariant
 
-pub returns-in-Tiles : goal.returns-in-Tiles
-unfolding follow key_of
-returns-in-Tiles c =
+pub loop-key-preserved : goal.loop-key-preserved
+loop-key-preserved c =
     let a = c.args in
-    c.only-in-Tiles.ensures ∙ ap (λ (k : Key). read_at (follow (key_of k)) a.text.now a.at) (sym c.in-Tiles.is)
+    let t = tested (goal.at.loop-key-preserved c).After-starts_with in
+    other_key c.followers-key-items.result.now c.loop-key.key-index Start c.loop-key-test.true a.text.now a.at (sym t ∙ c.if-starts_with.false)
+    ∙ c.loop-key.invariant
 
-pub returns-in-Side : goal.returns-in-Side
-unfolding follow key_of
-returns-in-Side c =
-    let a = c.args in
-    c.either.ensures ∙ ap (λ (k : Key). read_at (follow (key_of k)) a.text.now a.at) (sym c.in-Side.is)
-
-pub returns-in-Xlo : goal.returns-in-Xlo
-unfolding follow key_of
-returns-in-Xlo c =
-    let a = c.args in
-    c.only-in-Xlo.ensures ∙ ap (λ (k : Key). read_at (follow (key_of k)) a.text.now a.at) (sym c.in-Xlo.is)
-
-pub returns-in-Ylo : goal.returns-in-Ylo
-unfolding follow key_of
-returns-in-Ylo c =
-    let a = c.args in
-    c.only-in-Ylo.ensures ∙ ap (λ (k : Key). read_at (follow (key_of k)) a.text.now a.at) (sym c.in-Ylo.is)
-
-pub returns-in-Xhi : goal.returns-in-Xhi
-unfolding follow key_of
-returns-in-Xhi c =
-    let a = c.args in
-    c.only-in-Xhi.ensures ∙ ap (λ (k : Key). read_at (follow (key_of k)) a.text.now a.at) (sym c.in-Xhi.is)
-
-pub returns-in-Yhi : goal.returns-in-Yhi
-unfolding follow key_of
-returns-in-Yhi c =
-    let a = c.args in
-    c.either-in-Yhi.ensures ∙ ap (λ (k : Key). read_at (follow (key_of k)) a.text.now a.at) (sym c.in-Yhi.is)
-
-pub returns-in-X : goal.returns-in-X
-unfolding follow key_of
-returns-in-X c =
-    let a = c.args in
-    c.only-in-X.ensures ∙ ap (λ (k : Key). read_at (follow (key_of k)) a.text.now a.at) (sym c.in-X.is)
-
-pub returns-in-Y : goal.returns-in-Y
-unfolding follow key_of
-returns-in-Y c =
-    let a = c.args in
-    c.only-in-Y.ensures ∙ ap (λ (k : Key). read_at (follow (key_of k)) a.text.now a.at) (sym c.in-Y.is)
-
-pub returns-in-R : goal.returns-in-R
-unfolding follow key_of
-returns-in-R c =
-    let a = c.args in
-    c.only-in-R.ensures ∙ ap (λ (k : Key). read_at (follow (key_of k)) a.text.now a.at) (sym c.in-R.is)
+pub returns : goal.returns
+returns c = no_key c.followers-key-items.result.now c.loop-key.key-index c.args.text.now c.args.at (omega arith) ∙ c.loop-key.invariant

@@ -7,6 +7,6 @@ use Rattle.tables.proofs.register.bad_footprint.Goals as goal
 
 pub returns : goal.returns
 unfolding bad_footprint rectangle
-returns c =
+returns g c =
     c.bad_rect.ensures
     ∙ ap (λ (a : Rect). bad_span c.args.g a.x || bad_span c.args.g a.y) c.footprint.ensures

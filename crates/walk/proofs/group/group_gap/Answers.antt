@@ -3,6 +3,7 @@ use mathlib.Core.Path.{◌∙◌}
 use Rattle.walk.proofs.Near.{sized, columns, point_most}
 use Rattle.walk.proofs.Groups.{gap_up, gap_right, gap_down, gap_left, up_on, right_on, down_on, left_on}
 use native.Mathlib.Omega.{arith}
+use Rattle.walk.proofs.Readiness.{placed_of}
 use Rattle.walk.proofs.group.group_gap.Goals as goal
 
 pub overflow_add-r : goal.overflow_add-r
@@ -11,10 +12,10 @@ overflow_add-r c =
     let pre = c.requires in
     let column = c.column-c in
     let column2 = c.column-r in
-    let s = sized a.g a.q pre.0 in
-    let o = columns a.g a.q pre.0 in
-    let m = point_most a.g a.q pre.0 in
-    let on = (up_on a.g a.q a.d a.level column.result column2.result column.ensures column2.ensures pre.1 c.in-Up.is) in
+    let s = sized a.w.now.g a.w.now.q (placed_of a.w.now) in
+    let o = columns a.w.now.g a.w.now.q (placed_of a.w.now) in
+    let m = point_most a.w.now.g a.w.now.q (placed_of a.w.now) in
+    let on = (up_on a.w.now.g a.w.now.q a.d a.level column.result column2.result column.ensures column2.ensures pre c.in-Up.is) in
     omega (arith, column.ensures, column2.ensures)
 
 pub gap_to-requires : goal.gap_to-requires
@@ -23,10 +24,10 @@ gap_to-requires c =
     let pre = c.requires in
     let column = c.column-c in
     let column2 = c.column-r in
-    let s = sized a.g a.q pre.0 in
-    let o = columns a.g a.q pre.0 in
-    let m = point_most a.g a.q pre.0 in
-    let on = (up_on a.g a.q a.d a.level column.result column2.result column.ensures column2.ensures pre.1 c.in-Up.is) in
+    let s = sized a.w.now.g a.w.now.q (placed_of a.w.now) in
+    let o = columns a.w.now.g a.w.now.q (placed_of a.w.now) in
+    let m = point_most a.w.now.g a.w.now.q (placed_of a.w.now) in
+    let on = (up_on a.w.now.g a.w.now.q a.d a.level column.result column2.result column.ensures column2.ensures pre c.in-Up.is) in
     (omega arith, omega arith, omega (arith, column.ensures, column2.ensures), omega arith)
 
 pub overflow_add-c : goal.overflow_add-c
@@ -35,10 +36,10 @@ overflow_add-c c =
     let pre = c.requires in
     let column = c.column-c in
     let column2 = c.column-r in
-    let s = sized a.g a.q pre.0 in
-    let o = columns a.g a.q pre.0 in
-    let m = point_most a.g a.q pre.0 in
-    let on = (right_on a.g a.q a.d a.level column.result column2.result column.ensures column2.ensures pre.1 c.in-Right.is) in
+    let s = sized a.w.now.g a.w.now.q (placed_of a.w.now) in
+    let o = columns a.w.now.g a.w.now.q (placed_of a.w.now) in
+    let m = point_most a.w.now.g a.w.now.q (placed_of a.w.now) in
+    let on = (right_on a.w.now.g a.w.now.q a.d a.level column.result column2.result column.ensures column2.ensures pre c.in-Right.is) in
     omega (arith, column.ensures, column2.ensures)
 
 pub gap_to-requires-in-Right : goal.gap_to-requires-in-Right
@@ -47,10 +48,10 @@ gap_to-requires-in-Right c =
     let pre = c.requires in
     let column = c.column-c in
     let column2 = c.column-r in
-    let s = sized a.g a.q pre.0 in
-    let o = columns a.g a.q pre.0 in
-    let m = point_most a.g a.q pre.0 in
-    let on = (right_on a.g a.q a.d a.level column.result column2.result column.ensures column2.ensures pre.1 c.in-Right.is) in
+    let s = sized a.w.now.g a.w.now.q (placed_of a.w.now) in
+    let o = columns a.w.now.g a.w.now.q (placed_of a.w.now) in
+    let m = point_most a.w.now.g a.w.now.q (placed_of a.w.now) in
+    let on = (right_on a.w.now.g a.w.now.q a.d a.level column.result column2.result column.ensures column2.ensures pre c.in-Right.is) in
     (omega arith, omega arith, omega (arith, column.ensures, column2.ensures), omega arith)
 
 pub overflow_sub-r : goal.overflow_sub-r
@@ -59,10 +60,10 @@ overflow_sub-r c =
     let pre = c.requires in
     let column = c.column-c in
     let column2 = c.column-r in
-    let s = sized a.g a.q pre.0 in
-    let o = columns a.g a.q pre.0 in
-    let m = point_most a.g a.q pre.0 in
-    let on = (down_on a.g a.q a.d a.level column.result column2.result column.ensures column2.ensures pre.1 c.in-Down.is) in
+    let s = sized a.w.now.g a.w.now.q (placed_of a.w.now) in
+    let o = columns a.w.now.g a.w.now.q (placed_of a.w.now) in
+    let m = point_most a.w.now.g a.w.now.q (placed_of a.w.now) in
+    let on = (down_on a.w.now.g a.w.now.q a.d a.level column.result column2.result column.ensures column2.ensures pre c.in-Down.is) in
     omega (arith, column.ensures, column2.ensures)
 
 pub gap_to-requires-in-Down : goal.gap_to-requires-in-Down
@@ -71,10 +72,10 @@ gap_to-requires-in-Down c =
     let pre = c.requires in
     let column = c.column-c in
     let column2 = c.column-r in
-    let s = sized a.g a.q pre.0 in
-    let o = columns a.g a.q pre.0 in
-    let m = point_most a.g a.q pre.0 in
-    let on = (down_on a.g a.q a.d a.level column.result column2.result column.ensures column2.ensures pre.1 c.in-Down.is) in
+    let s = sized a.w.now.g a.w.now.q (placed_of a.w.now) in
+    let o = columns a.w.now.g a.w.now.q (placed_of a.w.now) in
+    let m = point_most a.w.now.g a.w.now.q (placed_of a.w.now) in
+    let on = (down_on a.w.now.g a.w.now.q a.d a.level column.result column2.result column.ensures column2.ensures pre c.in-Down.is) in
     (omega arith, omega arith, omega (arith, column.ensures, column2.ensures), omega arith)
 
 pub overflow_sub-c : goal.overflow_sub-c
@@ -83,10 +84,10 @@ overflow_sub-c c =
     let pre = c.requires in
     let column = c.column-c in
     let column2 = c.column-r in
-    let s = sized a.g a.q pre.0 in
-    let o = columns a.g a.q pre.0 in
-    let m = point_most a.g a.q pre.0 in
-    let on = (left_on a.g a.q a.d a.level column.result column2.result column.ensures column2.ensures pre.1 c.in-Left.is) in
+    let s = sized a.w.now.g a.w.now.q (placed_of a.w.now) in
+    let o = columns a.w.now.g a.w.now.q (placed_of a.w.now) in
+    let m = point_most a.w.now.g a.w.now.q (placed_of a.w.now) in
+    let on = (left_on a.w.now.g a.w.now.q a.d a.level column.result column2.result column.ensures column2.ensures pre c.in-Left.is) in
     omega (arith, column.ensures, column2.ensures)
 
 pub gap_to-requires-in-Left : goal.gap_to-requires-in-Left
@@ -95,10 +96,10 @@ gap_to-requires-in-Left c =
     let pre = c.requires in
     let column = c.column-c in
     let column2 = c.column-r in
-    let s = sized a.g a.q pre.0 in
-    let o = columns a.g a.q pre.0 in
-    let m = point_most a.g a.q pre.0 in
-    let on = (left_on a.g a.q a.d a.level column.result column2.result column.ensures column2.ensures pre.1 c.in-Left.is) in
+    let s = sized a.w.now.g a.w.now.q (placed_of a.w.now) in
+    let o = columns a.w.now.g a.w.now.q (placed_of a.w.now) in
+    let m = point_most a.w.now.g a.w.now.q (placed_of a.w.now) in
+    let on = (left_on a.w.now.g a.w.now.q a.d a.level column.result column2.result column.ensures column2.ensures pre c.in-Left.is) in
     (omega arith, omega arith, omega (arith, column.ensures, column2.ensures), omega arith)
 
 pub returns-in-Up : goal.returns-in-Up
@@ -106,25 +107,25 @@ returns-in-Up c =
     let a = c.args in
     let column = c.column-c in
     let column2 = c.column-r in
-    (c.gap_to.ensures.0 ∙ gap_up a.g a.q a.d a.level column.result column2.result column.ensures column2.ensures c.in-Up.is, c.gap_to.ensures.1)
+    (c.gap_to.ensures.0 ∙ gap_up a.w.now.g a.w.now.q a.d a.level column.result column2.result column.ensures column2.ensures c.in-Up.is, c.gap_to.ensures.1)
 
 pub returns-in-Right : goal.returns-in-Right
 returns-in-Right c =
     let a = c.args in
     let column = c.column-c in
     let column2 = c.column-r in
-    (c.gap_to-in-Right.ensures.0 ∙ gap_right a.g a.q a.d a.level column.result column2.result column.ensures column2.ensures c.in-Right.is, c.gap_to-in-Right.ensures.1)
+    (c.gap_to-in-Right.ensures.0 ∙ gap_right a.w.now.g a.w.now.q a.d a.level column.result column2.result column.ensures column2.ensures c.in-Right.is, c.gap_to-in-Right.ensures.1)
 
 pub returns-in-Down : goal.returns-in-Down
 returns-in-Down c =
     let a = c.args in
     let column = c.column-c in
     let column2 = c.column-r in
-    (c.gap_to-in-Down.ensures.0 ∙ gap_down a.g a.q a.d a.level column.result column2.result column.ensures column2.ensures c.in-Down.is, c.gap_to-in-Down.ensures.1)
+    (c.gap_to-in-Down.ensures.0 ∙ gap_down a.w.now.g a.w.now.q a.d a.level column.result column2.result column.ensures column2.ensures c.in-Down.is, c.gap_to-in-Down.ensures.1)
 
 pub returns-in-Left : goal.returns-in-Left
 returns-in-Left c =
     let a = c.args in
     let column = c.column-c in
     let column2 = c.column-r in
-    (c.gap_to-in-Left.ensures.0 ∙ gap_left a.g a.q a.d a.level column.result column2.result column.ensures column2.ensures c.in-Left.is, c.gap_to-in-Left.ensures.1)
+    (c.gap_to-in-Left.ensures.0 ∙ gap_left a.w.now.g a.w.now.q a.d a.level column.result column2.result column.ensures column2.ensures c.in-Left.is, c.gap_to-in-Left.ensures.1)

@@ -11,4 +11,4 @@ pub returns : goal.returns
 returns c =
     let a = c.args in
     let group-gap = c.group_gap-gap in
-    group_row a.g a.q c.encode.result a.d a.level group-gap.result group-gap.ensures.0 c.encode.ensures
+    group_row a.w.now.g a.w.now.q c.from.result a.d a.level group-gap.result group-gap.ensures.0 c.from.ensures

@@ -2,6 +2,7 @@
 use Rattle.walk.proofs.Near.{sized, columns}
 use Rattle.walk.proofs.Groups.{line_up, line_right, line_down, line_left, up_on, right_on, down_on, left_on, lies_as}
 use native.Mathlib.Omega.{arith}
+use Rattle.walk.proofs.Readiness.{placed_of}
 use Rattle.walk.proofs.group.group_tiles.Goals as goal
 
 pub overflow_add-r : goal.overflow_add-r
@@ -10,10 +11,10 @@ overflow_add-r c =
     let pre = c.requires in
     let column = c.column-c in
     let column2 = c.column-r in
-    let s = sized a.g a.q pre.0 in
-    let o = columns a.g a.q pre.0 in
-    let on = (up_on a.g a.q a.d a.level column.result column2.result column.ensures column2.ensures pre.2 c.in-Up.is) in
-    omega (arith, column.ensures, column2.ensures, pre.1)
+    let s = sized a.w.now.g a.w.now.q (placed_of a.w.now) in
+    let o = columns a.w.now.g a.w.now.q (placed_of a.w.now) in
+    let on = (up_on a.w.now.g a.w.now.q a.d a.level column.result column2.result column.ensures column2.ensures pre.1 c.in-Up.is) in
+    omega (arith, column.ensures, column2.ensures, pre.0)
 
 pub overflow_add-c : goal.overflow_add-c
 overflow_add-c c =
@@ -21,10 +22,10 @@ overflow_add-c c =
     let pre = c.requires in
     let column = c.column-c in
     let column2 = c.column-r in
-    let s = sized a.g a.q pre.0 in
-    let o = columns a.g a.q pre.0 in
-    let on = (up_on a.g a.q a.d a.level column.result column2.result column.ensures column2.ensures pre.2 c.in-Up.is) in
-    omega (arith, column.ensures, column2.ensures, pre.1)
+    let s = sized a.w.now.g a.w.now.q (placed_of a.w.now) in
+    let o = columns a.w.now.g a.w.now.q (placed_of a.w.now) in
+    let on = (up_on a.w.now.g a.w.now.q a.d a.level column.result column2.result column.ensures column2.ensures pre.1 c.in-Up.is) in
+    omega (arith, column.ensures, column2.ensures, pre.0)
 
 pub row_tiles-requires : goal.row_tiles-requires
 row_tiles-requires c =
@@ -32,10 +33,10 @@ row_tiles-requires c =
     let pre = c.requires in
     let column = c.column-c in
     let column2 = c.column-r in
-    let s = sized a.g a.q pre.0 in
-    let o = columns a.g a.q pre.0 in
-    let on = (up_on a.g a.q a.d a.level column.result column2.result column.ensures column2.ensures pre.2 c.in-Up.is) in
-    (omega arith, omega (arith, column.ensures, column2.ensures), omega (arith, column.ensures, column2.ensures, c.less.ensures, c.least.ensures, pre.1), omega (arith, c.least.ensures))
+    let s = sized a.w.now.g a.w.now.q (placed_of a.w.now) in
+    let o = columns a.w.now.g a.w.now.q (placed_of a.w.now) in
+    let on = (up_on a.w.now.g a.w.now.q a.d a.level column.result column2.result column.ensures column2.ensures pre.1 c.in-Up.is) in
+    (omega arith, omega (arith, column.ensures, column2.ensures), omega (arith, column.ensures, column2.ensures, c.saturating_sub.ensures, c.min.ensures, pre.0), omega (arith, c.min.ensures))
 
 pub overflow_add-c-in-Right : goal.overflow_add-c-in-Right
 overflow_add-c-in-Right c =
@@ -43,10 +44,10 @@ overflow_add-c-in-Right c =
     let pre = c.requires in
     let column = c.column-c in
     let column2 = c.column-r in
-    let s = sized a.g a.q pre.0 in
-    let o = columns a.g a.q pre.0 in
-    let on = (right_on a.g a.q a.d a.level column.result column2.result column.ensures column2.ensures pre.2 c.in-Right.is) in
-    omega (arith, column.ensures, column2.ensures, pre.1)
+    let s = sized a.w.now.g a.w.now.q (placed_of a.w.now) in
+    let o = columns a.w.now.g a.w.now.q (placed_of a.w.now) in
+    let on = (right_on a.w.now.g a.w.now.q a.d a.level column.result column2.result column.ensures column2.ensures pre.1 c.in-Right.is) in
+    omega (arith, column.ensures, column2.ensures, pre.0)
 
 pub overflow_add-r-in-Right : goal.overflow_add-r-in-Right
 overflow_add-r-in-Right c =
@@ -54,10 +55,10 @@ overflow_add-r-in-Right c =
     let pre = c.requires in
     let column = c.column-c in
     let column2 = c.column-r in
-    let s = sized a.g a.q pre.0 in
-    let o = columns a.g a.q pre.0 in
-    let on = (right_on a.g a.q a.d a.level column.result column2.result column.ensures column2.ensures pre.2 c.in-Right.is) in
-    omega (arith, column.ensures, column2.ensures, pre.1)
+    let s = sized a.w.now.g a.w.now.q (placed_of a.w.now) in
+    let o = columns a.w.now.g a.w.now.q (placed_of a.w.now) in
+    let on = (right_on a.w.now.g a.w.now.q a.d a.level column.result column2.result column.ensures column2.ensures pre.1 c.in-Right.is) in
+    omega (arith, column.ensures, column2.ensures, pre.0)
 
 pub overflow_add-r-in-Right-2 : goal.overflow_add-r-in-Right-2
 overflow_add-r-in-Right-2 c =
@@ -65,10 +66,10 @@ overflow_add-r-in-Right-2 c =
     let pre = c.requires in
     let column = c.column-c in
     let column2 = c.column-r in
-    let s = sized a.g a.q pre.0 in
-    let o = columns a.g a.q pre.0 in
-    let on = (right_on a.g a.q a.d a.level column.result column2.result column.ensures column2.ensures pre.2 c.in-Right.is) in
-    omega (arith, column.ensures, column2.ensures, pre.1)
+    let s = sized a.w.now.g a.w.now.q (placed_of a.w.now) in
+    let o = columns a.w.now.g a.w.now.q (placed_of a.w.now) in
+    let on = (right_on a.w.now.g a.w.now.q a.d a.level column.result column2.result column.ensures column2.ensures pre.1 c.in-Right.is) in
+    omega (arith, column.ensures, column2.ensures, pre.0)
 
 pub overflow_add-r-in-Right-3 : goal.overflow_add-r-in-Right-3
 overflow_add-r-in-Right-3 c =
@@ -76,10 +77,10 @@ overflow_add-r-in-Right-3 c =
     let pre = c.requires in
     let column = c.column-c in
     let column2 = c.column-r in
-    let s = sized a.g a.q pre.0 in
-    let o = columns a.g a.q pre.0 in
-    let on = (right_on a.g a.q a.d a.level column.result column2.result column.ensures column2.ensures pre.2 c.in-Right.is) in
-    omega (arith, column.ensures, column2.ensures, pre.1)
+    let s = sized a.w.now.g a.w.now.q (placed_of a.w.now) in
+    let o = columns a.w.now.g a.w.now.q (placed_of a.w.now) in
+    let on = (right_on a.w.now.g a.w.now.q a.d a.level column.result column2.result column.ensures column2.ensures pre.1 c.in-Right.is) in
+    omega (arith, column.ensures, column2.ensures, pre.0)
 
 pub column_tiles-requires : goal.column_tiles-requires
 column_tiles-requires c =
@@ -87,10 +88,10 @@ column_tiles-requires c =
     let pre = c.requires in
     let column = c.column-c in
     let column2 = c.column-r in
-    let s = sized a.g a.q pre.0 in
-    let o = columns a.g a.q pre.0 in
-    let on = (right_on a.g a.q a.d a.level column.result column2.result column.ensures column2.ensures pre.2 c.in-Right.is) in
-    (omega arith, omega (arith, column.ensures, column2.ensures), omega (arith, column.ensures, column2.ensures, c.less-in-Right.ensures, c.least-in-Right.ensures, pre.1), omega (arith, c.least-in-Right.ensures))
+    let s = sized a.w.now.g a.w.now.q (placed_of a.w.now) in
+    let o = columns a.w.now.g a.w.now.q (placed_of a.w.now) in
+    let on = (right_on a.w.now.g a.w.now.q a.d a.level column.result column2.result column.ensures column2.ensures pre.1 c.in-Right.is) in
+    (omega arith, omega (arith, column.ensures, column2.ensures), omega (arith, column.ensures, column2.ensures, c.saturating_sub-in-Right.ensures, c.min-in-Right.ensures, pre.0), omega (arith, c.min-in-Right.ensures))
 
 pub overflow_sub-r : goal.overflow_sub-r
 overflow_sub-r c =
@@ -98,10 +99,10 @@ overflow_sub-r c =
     let pre = c.requires in
     let column = c.column-c in
     let column2 = c.column-r in
-    let s = sized a.g a.q pre.0 in
-    let o = columns a.g a.q pre.0 in
-    let on = (down_on a.g a.q a.d a.level column.result column2.result column.ensures column2.ensures pre.2 c.in-Down.is) in
-    omega (arith, column.ensures, column2.ensures, pre.1)
+    let s = sized a.w.now.g a.w.now.q (placed_of a.w.now) in
+    let o = columns a.w.now.g a.w.now.q (placed_of a.w.now) in
+    let on = (down_on a.w.now.g a.w.now.q a.d a.level column.result column2.result column.ensures column2.ensures pre.1 c.in-Down.is) in
+    omega (arith, column.ensures, column2.ensures, pre.0)
 
 pub overflow_add-c-in-Down : goal.overflow_add-c-in-Down
 overflow_add-c-in-Down c =
@@ -109,10 +110,10 @@ overflow_add-c-in-Down c =
     let pre = c.requires in
     let column = c.column-c in
     let column2 = c.column-r in
-    let s = sized a.g a.q pre.0 in
-    let o = columns a.g a.q pre.0 in
-    let on = (down_on a.g a.q a.d a.level column.result column2.result column.ensures column2.ensures pre.2 c.in-Down.is) in
-    omega (arith, column.ensures, column2.ensures, pre.1)
+    let s = sized a.w.now.g a.w.now.q (placed_of a.w.now) in
+    let o = columns a.w.now.g a.w.now.q (placed_of a.w.now) in
+    let on = (down_on a.w.now.g a.w.now.q a.d a.level column.result column2.result column.ensures column2.ensures pre.1 c.in-Down.is) in
+    omega (arith, column.ensures, column2.ensures, pre.0)
 
 pub overflow_add-c-in-Down-2 : goal.overflow_add-c-in-Down-2
 overflow_add-c-in-Down-2 c =
@@ -120,10 +121,10 @@ overflow_add-c-in-Down-2 c =
     let pre = c.requires in
     let column = c.column-c in
     let column2 = c.column-r in
-    let s = sized a.g a.q pre.0 in
-    let o = columns a.g a.q pre.0 in
-    let on = (down_on a.g a.q a.d a.level column.result column2.result column.ensures column2.ensures pre.2 c.in-Down.is) in
-    omega (arith, column.ensures, column2.ensures, pre.1)
+    let s = sized a.w.now.g a.w.now.q (placed_of a.w.now) in
+    let o = columns a.w.now.g a.w.now.q (placed_of a.w.now) in
+    let on = (down_on a.w.now.g a.w.now.q a.d a.level column.result column2.result column.ensures column2.ensures pre.1 c.in-Down.is) in
+    omega (arith, column.ensures, column2.ensures, pre.0)
 
 pub overflow_add-c-in-Down-3 : goal.overflow_add-c-in-Down-3
 overflow_add-c-in-Down-3 c =
@@ -131,10 +132,10 @@ overflow_add-c-in-Down-3 c =
     let pre = c.requires in
     let column = c.column-c in
     let column2 = c.column-r in
-    let s = sized a.g a.q pre.0 in
-    let o = columns a.g a.q pre.0 in
-    let on = (down_on a.g a.q a.d a.level column.result column2.result column.ensures column2.ensures pre.2 c.in-Down.is) in
-    omega (arith, column.ensures, column2.ensures, pre.1)
+    let s = sized a.w.now.g a.w.now.q (placed_of a.w.now) in
+    let o = columns a.w.now.g a.w.now.q (placed_of a.w.now) in
+    let on = (down_on a.w.now.g a.w.now.q a.d a.level column.result column2.result column.ensures column2.ensures pre.1 c.in-Down.is) in
+    omega (arith, column.ensures, column2.ensures, pre.0)
 
 pub row_tiles-requires-in-Down : goal.row_tiles-requires-in-Down
 row_tiles-requires-in-Down c =
@@ -142,10 +143,10 @@ row_tiles-requires-in-Down c =
     let pre = c.requires in
     let column = c.column-c in
     let column2 = c.column-r in
-    let s = sized a.g a.q pre.0 in
-    let o = columns a.g a.q pre.0 in
-    let on = (down_on a.g a.q a.d a.level column.result column2.result column.ensures column2.ensures pre.2 c.in-Down.is) in
-    (omega arith, omega (arith, column.ensures, column2.ensures), omega (arith, column.ensures, column2.ensures, c.less-in-Down.ensures, c.least-in-Down.ensures, pre.1), omega (arith, c.least-in-Down.ensures))
+    let s = sized a.w.now.g a.w.now.q (placed_of a.w.now) in
+    let o = columns a.w.now.g a.w.now.q (placed_of a.w.now) in
+    let on = (down_on a.w.now.g a.w.now.q a.d a.level column.result column2.result column.ensures column2.ensures pre.1 c.in-Down.is) in
+    (omega arith, omega (arith, column.ensures, column2.ensures), omega (arith, column.ensures, column2.ensures, c.saturating_sub-in-Down.ensures, c.min-in-Down.ensures, pre.0), omega (arith, c.min-in-Down.ensures))
 
 pub overflow_sub-c : goal.overflow_sub-c
 overflow_sub-c c =
@@ -153,10 +154,10 @@ overflow_sub-c c =
     let pre = c.requires in
     let column = c.column-c in
     let column2 = c.column-r in
-    let s = sized a.g a.q pre.0 in
-    let o = columns a.g a.q pre.0 in
-    let on = (left_on a.g a.q a.d a.level column.result column2.result column.ensures column2.ensures pre.2 c.in-Left.is) in
-    omega (arith, column.ensures, column2.ensures, pre.1)
+    let s = sized a.w.now.g a.w.now.q (placed_of a.w.now) in
+    let o = columns a.w.now.g a.w.now.q (placed_of a.w.now) in
+    let on = (left_on a.w.now.g a.w.now.q a.d a.level column.result column2.result column.ensures column2.ensures pre.1 c.in-Left.is) in
+    omega (arith, column.ensures, column2.ensures, pre.0)
 
 pub overflow_add-r-in-Left : goal.overflow_add-r-in-Left
 overflow_add-r-in-Left c =
@@ -164,10 +165,10 @@ overflow_add-r-in-Left c =
     let pre = c.requires in
     let column = c.column-c in
     let column2 = c.column-r in
-    let s = sized a.g a.q pre.0 in
-    let o = columns a.g a.q pre.0 in
-    let on = (left_on a.g a.q a.d a.level column.result column2.result column.ensures column2.ensures pre.2 c.in-Left.is) in
-    omega (arith, column.ensures, column2.ensures, pre.1)
+    let s = sized a.w.now.g a.w.now.q (placed_of a.w.now) in
+    let o = columns a.w.now.g a.w.now.q (placed_of a.w.now) in
+    let on = (left_on a.w.now.g a.w.now.q a.d a.level column.result column2.result column.ensures column2.ensures pre.1 c.in-Left.is) in
+    omega (arith, column.ensures, column2.ensures, pre.0)
 
 pub column_tiles-requires-in-Left : goal.column_tiles-requires-in-Left
 column_tiles-requires-in-Left c =
@@ -175,43 +176,43 @@ column_tiles-requires-in-Left c =
     let pre = c.requires in
     let column = c.column-c in
     let column2 = c.column-r in
-    let s = sized a.g a.q pre.0 in
-    let o = columns a.g a.q pre.0 in
-    let on = (left_on a.g a.q a.d a.level column.result column2.result column.ensures column2.ensures pre.2 c.in-Left.is) in
-    (omega arith, omega (arith, column.ensures, column2.ensures), omega (arith, column.ensures, column2.ensures, c.less-in-Left.ensures, c.least-in-Left.ensures, pre.1), omega (arith, c.least-in-Left.ensures))
+    let s = sized a.w.now.g a.w.now.q (placed_of a.w.now) in
+    let o = columns a.w.now.g a.w.now.q (placed_of a.w.now) in
+    let on = (left_on a.w.now.g a.w.now.q a.d a.level column.result column2.result column.ensures column2.ensures pre.1 c.in-Left.is) in
+    (omega arith, omega (arith, column.ensures, column2.ensures), omega (arith, column.ensures, column2.ensures, c.saturating_sub-in-Left.ensures, c.min-in-Left.ensures, pre.0), omega (arith, c.min-in-Left.ensures))
 
 pub returns-in-Up : goal.returns-in-Up
 returns-in-Up c =
     let a = c.args in
     let column = c.column-c in
     let column2 = c.column-r in
-    let less = c.less in
-    let least = c.least in
-    lies_as _ _ c.row_tiles.result c.row_tiles.ensures (line_up a.g a.q a.d a.level column.result column2.result column.ensures column2.ensures less.result least.result c.in-Up.is less.ensures least.ensures)
+    let less = c.saturating_sub in
+    let least = c.min in
+    lies_as _ _ c.row_tiles.result c.row_tiles.ensures (line_up a.w.now.g a.w.now.q a.d a.level column.result column2.result column.ensures column2.ensures less.result least.result c.in-Up.is less.ensures least.ensures)
 
 pub returns-in-Right : goal.returns-in-Right
 returns-in-Right c =
     let a = c.args in
     let column = c.column-c in
     let column2 = c.column-r in
-    let less2 = c.less-in-Right in
-    let least2 = c.least-in-Right in
-    lies_as _ _ c.column_tiles.result c.column_tiles.ensures (line_right a.g a.q a.d a.level column.result column2.result column.ensures column2.ensures less2.result least2.result c.in-Right.is less2.ensures least2.ensures)
+    let less2 = c.saturating_sub-in-Right in
+    let least2 = c.min-in-Right in
+    lies_as _ _ c.column_tiles.result c.column_tiles.ensures (line_right a.w.now.g a.w.now.q a.d a.level column.result column2.result column.ensures column2.ensures less2.result least2.result c.in-Right.is less2.ensures least2.ensures)
 
 pub returns-in-Down : goal.returns-in-Down
 returns-in-Down c =
     let a = c.args in
     let column = c.column-c in
     let column2 = c.column-r in
-    let less3 = c.less-in-Down in
-    let least3 = c.least-in-Down in
-    lies_as _ _ c.row_tiles-in-Down.result c.row_tiles-in-Down.ensures (line_down a.g a.q a.d a.level column.result column2.result column.ensures column2.ensures less3.result least3.result c.in-Down.is less3.ensures least3.ensures)
+    let less3 = c.saturating_sub-in-Down in
+    let least3 = c.min-in-Down in
+    lies_as _ _ c.row_tiles-in-Down.result c.row_tiles-in-Down.ensures (line_down a.w.now.g a.w.now.q a.d a.level column.result column2.result column.ensures column2.ensures less3.result least3.result c.in-Down.is less3.ensures least3.ensures)
 
 pub returns-in-Left : goal.returns-in-Left
 returns-in-Left c =
     let a = c.args in
     let column = c.column-c in
     let column2 = c.column-r in
-    let less4 = c.less-in-Left in
-    let least4 = c.least-in-Left in
-    lies_as _ _ c.column_tiles-in-Left.result c.column_tiles-in-Left.ensures (line_left a.g a.q a.d a.level column.result column2.result column.ensures column2.ensures less4.result least4.result c.in-Left.is less4.ensures least4.ensures)
+    let less4 = c.saturating_sub-in-Left in
+    let least4 = c.min-in-Left in
+    lies_as _ _ c.column_tiles-in-Left.result c.column_tiles-in-Left.ensures (line_left a.w.now.g a.w.now.q a.d a.level column.result column2.result column.ensures column2.ensures less4.result least4.result c.in-Left.is less4.ensures least4.ensures)

@@ -1,78 +1,59 @@
 -- `walk::group::open_group` meets its contract. Assumes nothing.
-use mathlib.Core.Path.{sym, ap, ◌∙◌}
+use mathlib.Core.Path.{◌≡◌, sym, ap, ◌∙◌}
+use mathlib.Core.Bool.{not, ◌||◌}
 use mathlib.Core.List.{List, ◌++◌, map}
 use Prim.Native.Nat.{ℕ, ◌+◌}
-use Rattle.rules.specs.Walk.{group_if}
+use lib.Dec.{eqb}
+use Rattle.rules.specs.Walk.{group_if, group_exists, group_brings}
 use Rattle.rules.proofs.InRange.{group_in_range}
 use Rattle.rules.specs.declared.Item.TheVariants.{Tile}
-use Rattle.walk.specs.Fill.{Got, stands, add_all}
+use Rattle.walk.specs.Fill.{Got, stands, add_all, brought}
 use Rattle.walk.specs.Groups.{item_rows}
-use Rattle.walk.proofs.Adding.{spoilt, refilled}
-use Rattle.walk.proofs.Bringing.{add_all_append}
-use Rattle.walk.proofs.Groups.{lies_on, lies_tiles, group_lost, group_none, group_brings_law}
+use Rattle.walk.proofs.Adding.{refilled}
+use Rattle.walk.proofs.Bringing.{add_all_lost, add_all_append}
+use Rattle.walk.proofs.Groups.{lies_on, lies_tiles, group_brings_law}
 use native.Mathlib.Omega.{arith}
+use Rattle.laws.specs.Lines.{line}
+use Rattle.walk.proofs.group.open_group.Goals.{After-group_tiles}
+use Rattle.walk.proofs.Readiness.{placed_of}
 use Rattle.walk.proofs.group.open_group.Goals as goal
 
-pub returns-then-level-eq0 : goal.returns-then-level-eq0
-returns-then-level-eq0 c =
-    let a = c.args in
-    let pre = c.requires in
-    rw c.spoil.ensures (spoilt a.front.now a.batch.now a.f _ pre.safe (group_lost a.g a.q a.d a.level _ _ c.if-level-eq0.true))
+-- the tiles' rows, with those of the next group, are what the group brings
 
-pub group_tiles-tiles-requires : goal.group_tiles-tiles-requires
-group_tiles-tiles-requires c =
-    let pre = c.requires in
-    let l = c.if-level-eq0.false in (pre.placed, omega arith, sym c.group_exists.ensures ∙ c.if-group_exists.true)
-
-pub add_tiles-h-requires : goal.add_tiles-h-requires
-add_tiles-h-requires c =
-    let group-exists = c.group_exists in
-    let pre = c.requires in
-    let group-tiles = c.group_tiles-tiles in
+pub add_tiles-requires-clause-on_grid : goal.add_tiles-requires-clause-on_grid
+add_tiles-requires-clause-on_grid c =
     let a = c.args in
-    let e = sym group-exists.ensures ∙ c.if-group_exists.true in record {
-      safe = pre.safe;
-      placed = (pre.placed, group-tiles.ensures.close, group-tiles.ensures.few);
-      by_index = lies_on a.g a.q a.d a.level pre.placed e group-tiles.result group-tiles.ensures;
-    }
+    lies_on a.w.now.g a.w.now.q a.d a.level (placed_of a.w.now) (sym c.group_exists.ensures ∙ c.if-not-group_exists.false) c.group_tiles.result c.group_tiles.ensures
 
 pub overflow_add-level : goal.overflow_add-level
 overflow_add-level c =
     let a = c.args in
-    let pre = c.requires in
-    let group-exists = c.group_exists in
-    let if2 = c.if-group_exists in
-    omega (arith, group_in_range a.g a.q a.d a.level pre.placed.sizes pre.placed.point (sym group-exists.ensures ∙ if2.true))
+    let placed = (placed_of a.w.now) in
+    omega (arith, group_in_range a.w.now.g a.w.now.q a.d a.level placed.sizes placed.point (sym c.group_exists.ensures ∙ c.if-not-group_exists.false))
 
-pub add_group-requires : goal.add_group-requires
-add_group-requires c =
-    let add-tiles = c.add_tiles-h in
-    let pre = c.requires in record {
-      safe = add-tiles.ensures.safe;
-      placed = pre.placed;
-    }
-
-pub returns-then-group_exists : goal.returns-then-group_exists
-returns-then-group_exists c =
-    let group-exists = c.group_exists in
-    let if2 = c.if-group_exists in
+brings : (c : After-group_tiles) → let a = c.args in let s = stands a.front.now a.batch.now a.f in let r = c.group_tiles.result in
+    add_all (add_all s (item_rows a.w.now.g a.w.now.q (map Tile (line r.start r.apart r.many)))) (item_rows a.w.now.g a.w.now.q (group_if a.w.now.g a.w.now.q (a.level + 1) a.d))
+    ≡ brought s (eqb a.level 0 || not (group_exists a.w.now.g a.w.now.q a.d a.level)) (item_rows a.w.now.g a.w.now.q (group_brings a.w.now.g a.w.now.q a.d a.level))
+brings c =
     let a = c.args in
-    let add-group = c.add_group in
-    let add-tiles = c.add_tiles-h in
-    let pre = c.requires in
-    let group-tiles = c.group_tiles-tiles in
-    let if1 = c.if-level-eq0 in
-    let e = sym group-exists.ensures ∙ if2.true in
+    let e = sym c.group_exists.ensures ∙ c.if-not-group_exists.false in
     let s = stands a.front.now a.batch.now a.f in
-    let next = item_rows a.g a.q (group_if a.g a.q (a.level + 1) a.d) in
-    refilled add-group.new.front add-group.new.batch add-group.result _ _ add-group.ensures
-    (ap (λ (x : Got). add_all x next) add-tiles.ensures.is
-    ∙ sym (add_all_append s _ next)
-    ∙ ap (λ (l : List ℕ). add_all s (item_rows a.g a.q (map Tile l) ++ next)) (lies_tiles a.g a.q a.d a.level pre.placed e group-tiles.result group-tiles.ensures)
-    ∙ group_brings_law a.g a.q a.d a.level s if1.false e)
+    let next = item_rows a.w.now.g a.w.now.q (group_if a.w.now.g a.w.now.q (a.level + 1) a.d) in
+    sym (add_all_append s _ next)
+    ∙ ap (λ (l : List ℕ). add_all s (item_rows a.w.now.g a.w.now.q (map Tile l) ++ next)) (lies_tiles a.w.now.g a.w.now.q a.d a.level (placed_of a.w.now) e c.group_tiles.result c.group_tiles.ensures)
+    ∙ group_brings_law a.w.now.g a.w.now.q a.d a.level s c.if-level-eq0.false e
+
+pub returns-in_err-f : goal.returns-in_err-f
+returns-in_err-f c =
+    let a = c.args in
+    let next = item_rows a.w.now.g a.w.now.q (group_if a.w.now.g a.w.now.q (a.level + 1) a.d) in
+    rw c.from_residual.ensures
+    (sym (add_all_lost next) ∙ ap (λ (x : Got). add_all x next) c.in_err-f.ensures ∙ brings (goal.at.returns-in_err-f c).After-group_tiles)
 
 pub returns : goal.returns
 returns c =
     let a = c.args in
-    let pre = c.requires in
-    rw c.spoil-2.ensures (spoilt a.front.now a.batch.now a.f _ pre.safe (group_none a.g a.q a.d a.level _ _ c.if-level-eq0.false (sym c.group_exists.ensures ∙ c.if-group_exists.false)))
+    let add = c.add_group in
+    let next = item_rows a.w.now.g a.w.now.q (group_if a.w.now.g a.w.now.q (a.level + 1) a.d) in
+    refilled add.new.front add.new.batch add.result _ _ add.ensures
+    (ap (λ (x : Got). add_all x next) c.in_ok-f.ensures.is ∙ brings (goal.at.returns c).After-group_tiles)

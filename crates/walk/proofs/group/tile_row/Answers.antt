@@ -2,34 +2,35 @@
 use Rattle.walk.proofs.Near.{sized, point_most, tile_on, square_fits}
 use Rattle.walk.proofs.Groups.{tile_row}
 use native.Mathlib.Omega.{arith}
+use Rattle.walk.proofs.Readiness.{placed_of}
 use Rattle.walk.proofs.group.tile_row.Goals as goal
 
 pub nonzero_rem-tile : goal.nonzero_rem-tile
 nonzero_rem-tile c =
     let a = c.args in
-    let s = sized a.g a.q c.requires.0 in omega arith
+    let s = sized a.w.now.g a.w.now.q (placed_of a.w.now) in omega arith
 
 pub gap_to-dx-requires : goal.gap_to-dx-requires
 gap_to-dx-requires c =
     let a = c.args in
     let pre = c.requires in
-    let s = sized a.g a.q pre.0 in
-    let m = point_most a.g a.q pre.0 in
-    let o = tile_on a.g a.q pre.0 a.tile pre.1 in
+    let s = sized a.w.now.g a.w.now.q (placed_of a.w.now) in
+    let m = point_most a.w.now.g a.w.now.q (placed_of a.w.now) in
+    let o = tile_on a.w.now.g a.w.now.q (placed_of a.w.now) a.tile pre in
     (omega arith, omega arith, omega arith, omega arith)
 
 pub nonzero_div-tile : goal.nonzero_div-tile
 nonzero_div-tile c =
     let a = c.args in
-    let s = sized a.g a.q c.requires.0 in omega arith
+    let s = sized a.w.now.g a.w.now.q (placed_of a.w.now) in omega arith
 
 pub gap_to-dy-requires : goal.gap_to-dy-requires
 gap_to-dy-requires c =
     let a = c.args in
     let pre = c.requires in
-    let s = sized a.g a.q pre.0 in
-    let m = point_most a.g a.q pre.0 in
-    let o = tile_on a.g a.q pre.0 a.tile pre.1 in
+    let s = sized a.w.now.g a.w.now.q (placed_of a.w.now) in
+    let m = point_most a.w.now.g a.w.now.q (placed_of a.w.now) in
+    let o = tile_on a.w.now.g a.w.now.q (placed_of a.w.now) a.tile pre in
     (omega arith, omega arith, omega arith, omega arith)
 
 pub overflow_mul-dx : goal.overflow_mul-dx
@@ -50,4 +51,4 @@ returns c =
     let a = c.args in
     let gap-to = c.gap_to-dx in
     let gap-to2 = c.gap_to-dy in
-    tile_row a.g a.q c.encode.result a.tile gap-to.result gap-to2.result gap-to.ensures.0 gap-to2.ensures.0 c.encode.ensures
+    tile_row a.w.now.g a.w.now.q c.from.result a.tile gap-to.result gap-to2.result gap-to.ensures.0 gap-to2.ensures.0 c.from.ensures

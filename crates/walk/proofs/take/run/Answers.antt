@@ -1,86 +1,77 @@
 -- `walk::take::run` meets its contract: what stands, worked on, is the whole; the measure is the weight of the waiting rows. Assumes nothing.
-use mathlib.Core.Path.{◌≡◌, refl, sym, ap, ◌∙◌}
+use mathlib.Core.Path.{refl, sym, ◌∙◌}
+use Prim.Native.Nat.{◌<◌}
 use lib.ListN.{length}
-use Rattle.rules.specs.Tables.{tables}
 use Rattle.rules.specs.Front.{rows}
 use Rattle.rules.proofs.Memory.{length_rows}
-use Rattle.walk.specs.Taking.{goes}
 use Rattle.walk.proofs.Adding.{same_rows}
-use Rattle.walk.proofs.Runs.{run_all, run_step, run_falls, run_end_law, goes_yes}
+use Rattle.walk.proofs.Runs.{run_all, run_step, run_falls, run_fails, run_end_law, rests_enough, rests_empty}
 use native.Mathlib.Omega.{arith}
--- the test at the loop's head
-use Rattle.walk.proofs.take.run.Goals.{After-going}
+use Rattle.walk.proofs.take.run.Goals.{Then-s-n}
+use Rattle.walk.specs.Outward.{lent_by}
+use Rattle.walk.proofs.Readiness.{placed_of}
 use Rattle.walk.proofs.take.run.Goals as goal
 
-test : (c : After-going) → goes c.loop-g.s c.args.j (length (rows c.loop-g.front)) ≡ c.going.result
-test c =
-    let loop = c.loop-g in
+-- a row waits
+some : (c : Then-s-n) → c.loop-s.s.head < length (rows c.loop-s.front)
+some c = let i = c.loop-s.invariant.2 in let t = c.if-s-n.true in omega arith
+
+pub loop-s-init : goal.loop-s-init
+loop-s-init c =
     let a = c.args in
-    ap (goes loop.s a.j) (sym loop.invariant.2) ∙ sym c.going.ensures
+    (run_all a.w.now.g (lent_by a.w.now) a.w.now.q a.front.now a.out.now a.head a.j c.requires.room.0, refl, c.whole-n.ensures)
 
-pub whole-n-requires : goal.whole-n-requires
-whole-n-requires c = tt
+pub take_one-requires : goal.take_one-requires
+take_one-requires c =
+    let loop = c.loop-s in
+    let room = c.requires.room in
+    let o = loop.invariant.0.out_size in
+    let b = loop.invariant.1 in
+    let n = length_rows loop.batch in
+    let t = c.loop-s-test.true in
+    record { head_there = (some (goal.at.take_one-requires c).Then-s-n, omega arith, omega arith) }
 
-pub loop-g-init : goal.loop-g-init
-loop-g-init c =
+pub returns-in_err-s : goal.returns-in_err-s
+returns-in_err-s c =
     let a = c.args in
-    let pre = c.requires in
-    let lent = tables a.reg.now a.starts.now a.entries.now in
-    (run_all a.g lent a.q a.front.now a.out.now a.head a.j pre.head_in_bounds.0, refl, c.whole-n.ensures)
+    let loop = c.loop-s in
+    let lent = lent_by a.w.now in
+    rw c.from_residual.ensures
+    (run_fails a.w.now.g lent a.w.now.q a.front.now a.out.now a.head a.j loop.front loop.out loop.s loop.invariant.0 c.loop-s-test.true
+    (some (goal.at.returns-in_err-s c).Then-s-n) c.take_one.new.out c.in_err-s.ensures)
 
-pub going-requires : goal.going-requires
-going-requires c = tt
-
-pub slice_bounds-take_one-end : goal.slice_bounds-take_one-end
-slice_bounds-take_one-end c =
-    let loop = c.loop-g in
-    sym loop.invariant.1
-
-pub take_one-s-requires : goal.take_one-s-requires
-take_one-s-requires c =
-    let pre = c.requires in
-    let loop = c.loop-g in
+pub loop-s-smaller : goal.loop-s-smaller
+loop-s-smaller c =
     let a = c.args in
-    let p = pre.head_in_bounds in
-    let i = loop.invariant.0.out_size in
-    let k = loop.invariant.1 in
-    let y = goes_yes loop.s a.j (length (rows loop.front)) (test (goal.at.take_one-s-requires c).After-going ∙ c.loop-g-test.true) in
-    let n = length_rows loop.batch in record {
-      ready = pre.ready;
-      bad_value = (y.0, y.2, omega arith, omega arith);
-    }
+    let loop = c.loop-s in
+    let take = c.take_one in
+    let lent = lent_by a.w.now in
+    run_falls a.w.now.g lent a.w.now.q a.front.now a.out.now a.head a.j loop.front loop.out loop.s loop.invariant.0 c.loop-s-test.true
+    (some (goal.at.loop-s-smaller c).Then-s-n) take.new.front take.new.out c.in_ok-s.s take.auto.front take.auto.out c.in_ok-s.ensures (placed_of c.args.w.now)
 
-pub loop-g-smaller : goal.loop-g-smaller
-loop-g-smaller c =
+pub loop-s-preserved : goal.loop-s-preserved
+loop-s-preserved c =
     let a = c.args in
-    let loop = c.loop-g in
-    let if1 = c.loop-g-test in
-    let take-one = c.take_one-s in
-    let pre = c.requires in
-    let lent = tables a.reg.now a.starts.now a.entries.now in
-    run_falls a.g lent a.q a.front.now a.out.now a.head a.j
-    loop.front loop.out loop.s loop.invariant.0 (test (goal.at.loop-g-smaller c).After-going ∙ if1.true)
-    take-one.new.front take-one.new.out take-one.result take-one.auto.front take-one.auto.out take-one.ensures pre.ready.placed
-
-pub loop-g-preserved : goal.loop-g-preserved
-loop-g-preserved c =
-    let a = c.args in
-    let loop = c.loop-g in
-    let if1 = c.loop-g-test in
-    let take-one = c.take_one-s in
-    let lent = tables a.reg.now a.starts.now a.entries.now in
-    let i = loop.invariant in (
-      run_step a.g lent a.q a.front.now a.out.now a.head a.j
-          loop.front loop.out loop.s loop.invariant.0 (test (goal.at.loop-g-preserved c).After-going ∙ if1.true)
-          take-one.new.front take-one.new.out take-one.result take-one.auto.front take-one.auto.out take-one.ensures,
-      take-one.auto.batch ∙ i.1,
-      i.2 ∙ sym (same_rows take-one.new.front loop.front take-one.auto.front),
+    let loop = c.loop-s in
+    let take = c.take_one in
+    let lent = lent_by a.w.now in (
+      run_step a.w.now.g lent a.w.now.q a.front.now a.out.now a.head a.j loop.front loop.out loop.s loop.invariant.0 c.loop-s-test.true
+          (some (goal.at.loop-s-preserved c).Then-s-n) take.new.front take.new.out c.in_ok-s.s take.auto.front take.auto.out c.in_ok-s.ensures,
+      take.auto.batch ∙ loop.invariant.1,
+      loop.invariant.2 ∙ sym (same_rows take.new.front loop.front take.auto.front),
     )
 
-pub returns : goal.returns
-returns c =
+pub returns-else-s-n : goal.returns-else-s-n
+returns-else-s-n c =
     let a = c.args in
-    let loop = c.loop-g in
-    let lent = tables a.reg.now a.starts.now a.entries.now in
-    run_end_law a.g lent a.q a.front.now a.out.now a.head a.j
-    loop.front loop.out loop.s loop.invariant.0 (test (goal.at.returns c).After-going ∙ c.loop-g-test.false)
+    let loop = c.loop-s in
+    let i = loop.invariant.2 in
+    run_end_law a.w.now.g (lent_by a.w.now) a.w.now.q a.front.now a.out.now a.head a.j loop.front loop.out loop.s loop.invariant.0
+    (rests_empty loop.front loop.out a.j loop.s (let t = c.if-s-n.false in omega arith))
+
+pub returns-after-loop-s : goal.returns-after-loop-s
+returns-after-loop-s c =
+    let a = c.args in
+    let loop = c.loop-s in
+    run_end_law a.w.now.g (lent_by a.w.now) a.w.now.q a.front.now a.out.now a.head a.j loop.front loop.out loop.s loop.invariant.0
+    (rests_enough loop.front loop.out a.j loop.s c.loop-s-test.false)

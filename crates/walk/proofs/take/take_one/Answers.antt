@@ -1,28 +1,24 @@
 -- `walk::take::take_one` meets its contract. Assumes nothing.
-use Rattle.rules.specs.Tables.{tables}
+use Rattle.std.proofs.Common.{◌≡◌, refl, rules}
+use Rattle.std.specs.Prelude.{Some, None}
+use Rattle.rules.specs.Front.{decoded}
 use Rattle.walk.proofs.Runs.{taken_known, taken_unknown}
+use Rattle.walk.specs.Outward.{lent_by}
 use Rattle.walk.proofs.take.take_one.Goals as goal
 
-pub returns-in-Known : goal.returns-in-Known
-returns-in-Known c =
+pub returns-in_err-row : goal.returns-in_err-row
+returns-in_err-row c =
     let a = c.args in
-    let pre = c.requires in
-    let row_at = c.row_at-a in
-    let decode = c.decode-read in
-    let take-item = c.take_item in
-    let lent = tables a.reg.now a.starts.now a.entries.now in
-    let p = pre.bad_value in
-    taken_known a.g lent a.q a.front.now a.out.now a.s p.0 p.1
-    row_at.result decode.result row_at.ensures decode.ensures c.in-Known.row c.in-Known.is
-    take-item.new.front take-item.new.out take-item.result take-item.ensures
+    let lent = lent_by a.w.now in
+    let read : None ≡ decoded c.row_at.result = search rules in
+    rw c.from_residual.ensures
+    (taken_unknown a.w.now.g lent a.w.now.q a.front.now a.out.now a.s c.requires.head_there.0 c.row_at.result None c.row_at.ensures read refl)
 
-pub returns-in-Unknown : goal.returns-in-Unknown
-returns-in-Unknown c =
+pub returns : goal.returns
+returns c =
     let a = c.args in
-    let pre = c.requires in
-    let row_at = c.row_at-a in
-    let decode = c.decode-read in
-    let lent = tables a.reg.now a.starts.now a.entries.now in
-    let p = pre.bad_value in
-    taken_unknown a.g lent a.q a.front.now a.out.now a.s p.0 p.1
-    row_at.result decode.result row_at.ensures decode.ensures c.in-Unknown.is
+    let take = c.take_item in
+    let lent = lent_by a.w.now in
+    let read : Some c.in_ok-row.row ≡ decoded c.row_at.result = search rules in
+    taken_known a.w.now.g lent a.w.now.q a.front.now a.out.now a.s c.requires.head_there.0 c.row_at.result (Some c.in_ok-row.row) c.row_at.ensures read
+    c.in_ok-row.row refl take.new.front take.new.out take.result take.ensures

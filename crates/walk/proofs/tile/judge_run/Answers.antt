@@ -1,48 +1,26 @@
--- `walk::tile::judge_run` meets its contract. Assumes nothing.
-use mathlib.Core.Path.{sym, ◌∙◌}
-use lib.ListN.{length}
-use Rattle.rules.specs.Tables.{tables, run_start, run_end}
-use Rattle.tables.proofs.Runs.{good_ends}
+-- `walk::tile::judge_run` meets its contract: its ends are judged, then its entries. Assumes nothing.
+use mathlib.Core.Path.{refl, sym, ◌∙◌}
+use borrow.Author.Tests.{not-false}
+use Rattle.laws.proofs.Tests.{not_not}
+use Rattle.rules.specs.Tables.{run_start, run_end}
 use Rattle.walk.proofs.Judging.{run_ends_bad, run_part_bad, run_fine}
-use native.Mathlib.Omega.{arith}
+use Rattle.walk.proofs.tile.judge_run.Goals.{then-bad_ends-via-then-bad_ends, then-bad_ends-via-else-bad_ends+then-bad_entries}
+use Rattle.walk.specs.Outward.{lent_by}
 use Rattle.walk.proofs.tile.judge_run.Goals as goal
 
 pub returns-then-bad_ends : goal.returns-then-bad_ends
 unfolding run_start run_end
 returns-then-bad_ends c =
     let a = c.args in
-    let wide = c.wide-begin in
-    let wide2 = c.wide-past in
-    let lent = tables a.reg.now a.starts.now a.entries.now in
-    run_ends_bad a.g lent a.k wide.result wide2.result wide.ensures wide2.ensures (sym c.bad_ends.ensures ∙ c.if-bad_ends.true)
-
-pub bad_part-requires : goal.bad_part-requires
-bad_part-requires c =
-    let a = c.args in
-    let wide = c.wide-begin in
-    (good_ends (length a.entries.now) wide.result c.wide-past.result (sym c.bad_ends.ensures ∙ c.if-bad_ends.false)).1
-
-pub returns-then-bad_part : goal.returns-then-bad_part
-unfolding run_start run_end
-returns-then-bad_part c =
-    let a = c.args in
-    let wide = c.wide-begin in
-    let wide2 = c.wide-past in
-    let lent = tables a.reg.now a.starts.now a.entries.now in
-    run_part_bad a.g lent a.k wide.result wide2.result wide.ensures wide2.ensures (sym c.bad_ends.ensures ∙ c.if-bad_ends.false) (sym c.if-bad_part.true ∙ c.bad_part.ensures)
-
-pub overflow_sub-result : goal.overflow_sub-result
-overflow_sub-result c =
-    let a = c.args in
-    let wide = c.wide-begin in
-    let wide2 = c.wide-past in
-    let p = good_ends (length a.entries.now) wide.result wide2.result (sym c.bad_ends.ensures ∙ c.if-bad_ends.false) in omega arith
+    let lent = lent_by a.w.now in
+    elim c.then-bad_ends.branch [
+      | then-bad_ends-via-then-bad_ends w ↦ run_ends_bad a.w.now.g lent a.k _ _ refl refl (sym c.bad_ends.ensures ∙ w.if-bad_ends.true)
+      | then-bad_ends-via-else-bad_ends+then-bad_entries w ↦ run_part_bad a.w.now.g lent a.k _ _ refl refl (sym c.bad_ends.ensures ∙ w.if-bad_ends.false) (not_not _ (sym w.bad_entries.ensures ∙ w.if-bad_entries.true))
+    ]
 
 pub returns : goal.returns
 unfolding run_start run_end
 returns c =
     let a = c.args in
-    let wide = c.wide-begin in
-    let wide2 = c.wide-past in
-    let lent = tables a.reg.now a.starts.now a.entries.now in
-    run_fine a.g lent a.k wide.result wide2.result wide.ensures wide2.ensures (sym c.bad_ends.ensures ∙ c.if-bad_ends.false) (sym c.if-bad_part.false ∙ c.bad_part.ensures)
+    let lent = lent_by a.w.now in
+    run_fine a.w.now.g lent a.k _ _ refl refl (sym c.bad_ends.ensures ∙ c.if-bad_ends.false) (not-false _ (sym c.bad_entries.ensures ∙ c.if-bad_entries.false))
