@@ -9,10 +9,6 @@ use Rattle.rules.specs.declared.Point.{Point}
 use Rattle.search.specs.Reading.{Placed}
 use Rattle.sheet.specs.Put.{Output, puts}
 
--- the point of a question
-abbrev pub asked : ℕ → ℕ → Point
-asked x y = record { x = x; y = y }
-
 -- a hit of a point on the grid: an entry may name it
 pub record Named (g : Grid) (reg : List ℕ) (q : Point) (hit : ℕ) : Type 0 where
   pub placed : Placed g q

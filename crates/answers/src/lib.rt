@@ -2,14 +2,13 @@
 #![tactic(auto)]
 
 ghost use Rattle.laws.specs.Lists.{each};
-ghost use Rattle.rules.specs.Tables.{tables};
 ghost use Rattle.rules.specs.Text.{hit_of};
 ghost use Rattle.sheet.specs.Put.{Puts};
-ghost use Rattle.answers.specs.Answers.{asked, Named, AllNamed, Answers};
+ghost use Rattle.answers.specs.Answers.{Named, AllNamed, Answers};
 
 use rules::{Grid, Point};
 use sheet::Page;
-use tables::register;
+use tables::{Lent, register};
 
 // Number and square of one hit.
 fn put_one(g: Grid, reg: &[u32], q: Point, hit: u32, page: &mut Page)
@@ -36,22 +35,19 @@ fn put_hits(g: Grid, reg: &[u32], q: Point, hits: &[u32], page: &mut Page)
 // output ends, nothing more is put.
 pub fn answer(
     g: Grid,
-    reg: &[u32],
-    starts: &[u32],
-    entries: &[u32],
-    x: u32,
-    y: u32,
+    t: &Lent<'_, u32>,
+    q: Point,
     r: u32,
     hits: &mut [u32],
     out: &mut [u8],
 ) -> Result<usize, usize>
-    ensures { Answers g (tables reg.now starts.now entries.now) (asked x y) r hits.old out.old result hits.new out.new }
+    ensures { Answers g t.now q r hits.old out.old result hits.new out.new }
 {
     let mut page = Page { out, at: 0 };
-    match search::search(g, reg, starts, entries, x, y, r, hits) {
+    match search::search(g, t, q, r, hits) {
         Ok(count) => {
             page.put_found(count);
-            put_hits(g, reg, Point { x, y }, &hits[..count as usize], &mut page);
+            put_hits(g, t.reg, q, &hits[..count as usize], &mut page);
             Ok(page.at)
         }
         Err(why) => {

@@ -7,6 +7,7 @@ ghost use Rattle.rules.specs.Build.{builds, checks};
 use crate::judged::Judged;
 use numbers::Form;
 use rules::{Grid, Refusal};
+use tables::Lent;
 
 // Builds the index of a register: leaves the starts, and the entries up to the count that it answers.
 pub fn build<F: Form>(
@@ -27,9 +28,9 @@ pub fn build<F: Form>(
 }
 
 // Whether the starts and the counted entries are what the build leaves; entries past the count are not looked at.
-pub fn check<F: Form>(g: Grid, reg: &[F], starts: &[F], entries: &[F]) -> Result<bool, Refusal>
-    ensures { paper_checked result ≡ checks g (F.numbers reg.now) (F.numbers starts.now) (F.numbers entries.now) }
+pub fn check<F: Form>(g: Grid, t: &Lent<'_, F>) -> Result<bool, Refusal>
+    ensures { paper_checked result ≡ checks g t.now.reg t.now.starts t.now.entries }
 {
-    let judged = Judged::of(g, reg, starts)?;
-    Ok(judged.is_right(starts, entries))
+    let judged = Judged::of(g, t.reg, t.starts)?;
+    Ok(judged.is_right(t.starts, t.entries))
 }

@@ -2,9 +2,9 @@
 use mathlib.Core.Path.{◌≡◌, sym, ◌∙◌}
 use mathlib.Core.Bool.{Bool, true, false, ◌&&◌}
 use Prim.Native.Nat.{ℕ, ◌+◌, ◌/◌, ◌%◌, ◌≤◌, ◌<◌}
-use native.Mathlib.Nat.{div-lt_iff_lt-mul, mod-lt}
+use native.Mathlib.Nat.{div-lt_iff_lt-mul}
 use lib.Dec.{leb}
-use borrow.Author.Tests.{leb-true, le-leb, lt-leb}
+use borrow.Author.Tests.{leb-true}
 use Rattle.laws.proofs.Tests.{fst_true, snd_true}
 use Rattle.rules.specs.Sizes.{row_of, column_of, tile_count}
 use Rattle.rules.specs.JoinSteps.{reaches, has_tile}
@@ -15,9 +15,6 @@ module _ (g : Grid) (some : 1 ≤ g.n) (t : ℕ) (h : t < tile_count g) where
   pub row_below : t / g.n < g.n
   unfolding tile_count
   row_below = (div-lt_iff_lt-mul some).1 h
-
-  pub column_below : t % g.n < g.n
-  column_below = mod-lt t some
 
   -- so are those of a tile at a position from it
   pub around_below : (p : ℕ) → has_tile g t p ≡ true
@@ -31,14 +28,6 @@ module _ (g : Grid) (some : 1 ≤ g.n) (t : ℕ) (h : t < tile_count g) where
         leb-true _ _ (fst_true (leb 1 (t % g.n + p % 3)) _ x),
         leb-true _ _ (snd_true (leb 1 (t % g.n + p % 3)) _ x),
       )
-
-pub off_before : (n c d : ℕ) → c + d < 1 → false ≡ reaches n c d
-unfolding reaches
-off_before n c d h = rw (lt-leb 1 (c + d) h)
-
-pub off_after : (n c d : ℕ) → 1 ≤ c + d → leb (c + d) n ≡ reaches n c d
-unfolding reaches
-off_after n c d h = rw (le-leb 1 (c + d) h)
 
 pub no_row : (g : Grid) (t p : ℕ) (b : Bool) → b ≡ reaches g.n (t / g.n) (p / 3) → b ≡ false → false ≡ has_tile g t p
 unfolding has_tile row_of

@@ -11,7 +11,7 @@ use Rattle.laws.specs.Lists.{part, from, all}
 use Rattle.rules.specs.Tables.{Tables, tables, runs, run_start, run_end, run_at, bad_starts, bad_ends, good_run}
 use Rattle.rules.specs.declared.Grid.{Grid}
 use Rattle.tables.proofs.Runs.{good_ends}
-use Rattle.join.specs.Levels.{good_entries}
+use Rattle.tables.specs.Entries.{good_entries}
 
 -- starts of the right length are one more than the runs
 pub starts_length : (g : Grid) (starts : List ℕ) → bad_starts g starts ≡ false → length starts ≡ runs g + 1
@@ -31,15 +31,6 @@ module _ (g : Grid) (reg starts entries : List ℕ) (k : ℕ) where
   ends_good a e ea ee h = rw (← ea, ← ee, h)
 
 -- ---- any that is bad
-
-not_either : (a b c : Bool) → b ≡ not c → (a || b) ≡ not (not a && c)
-not_either true b c e = refl
-not_either false b c e = e
-
--- one is bad where not all are good
-pub any_bad : (p : ℕ → Bool) (l : List ℕ) → list_any p l ≡ not (all (λ i. not (p i)) l)
-any_bad p [] = refl
-any_bad p (i ∷ l) = not_either (p i) _ _ (any_bad p l)
 
 pub any_not_good : (p : ℕ → Bool) (l : List ℕ) → list_any (λ i. not (p i)) l ≡ not (all p l)
 any_not_good p [] = refl

@@ -16,7 +16,8 @@ use Rattle.rules.specs.declared.Grid.{Grid}
 use Rattle.rules.proofs.Good.{good_sizes}
 use Rattle.rules.proofs.Report.{run_below}
 use Rattle.grid.proofs.Bounds.{square_most}
-use Rattle.join.specs.Levels.{good_entries, Sound}
+use Rattle.tables.specs.Entries.{good_entries}
+use Rattle.join.specs.Levels.{Sound}
 use Rattle.join.proofs.Judging.{starts_length}
 
 pub entry_good : (g : Grid) (reg l : List ℕ) (i : ℕ) → i < length l → good_entries g reg l ≡ true → bad_entry g reg (get_or l i 0) ≡ false

@@ -8,7 +8,7 @@ use Rattle.rules.specs.declared.Grid.{Grid}
 use Rattle.rules.specs.declared.Rect.{Rect}
 use Rattle.rules.specs.Tables.{Tables, run_at}
 use Rattle.grid.specs.Tiles.{Near}
-use Rattle.join.specs.Levels.{good_entries}
+use Rattle.tables.specs.Entries.{good_entries}
 
 -- a box holds the footprints of a list, and begins on the grid
 pub record Holds (g : Grid) (reg : List ℕ) (b : Rect) (l : List ℕ) : Type 0 where

@@ -1,19 +1,14 @@
 -- The pairs that each loop of a join finds, from one number of R up to R's tile, and what was judged before. Assumes nothing.
-use Rattle.std.specs.Prelude.{◌≡◌, Bool, true, false, not, List, [], ◌∷◌, ℕ, eqb}
-use Rattle.laws.specs.Lists.{filter, up_to, each, all, only}
+use Rattle.std.specs.Prelude.{◌≡◌, Bool, true, false, List, [], ◌∷◌, ℕ, eqb}
+use Rattle.laws.specs.Lists.{filter, up_to, each, only}
 use Rattle.rules.specs.Sizes.{bad_sizes, row_of, column_of, tiles}
 use Rattle.rules.specs.Span.{place}
 use Rattle.rules.specs.Classes.{marked_in}
-use Rattle.rules.specs.Register.{bad_entry}
 use Rattle.rules.specs.Tables.{Tables, bad_lengths, run_no, runs, run_start, run_at, good_runs}
 use Rattle.rules.specs.Join.{Pair, neighbours, lists, tile_pairs}
 use Rattle.rules.specs.JoinSteps.{has_tile, tile_at}
 use Rattle.rules.specs.declared.Grid.{Grid}
 use Rattle.grid.specs.Places.{position}
-
--- every entry of a list may be named
-abbrev pub good_entries : Grid → List ℕ → List ℕ → Bool
-good_entries g reg l = all (λ i. not (bad_entry g reg i)) l
 
 -- a side has the right lengths and shows no damage
 pub record Sound (g : Grid) (t : Tables) : Type 0 where

@@ -4,7 +4,7 @@ ghost use Rattle.rules.specs.Sizes.{bad_sizes};
 ghost use Rattle.rules.specs.Register.{rectangle, bad_entry};
 ghost use Rattle.grid.specs.Tiles.{Near};
 ghost use Rattle.rules.specs.JoinSteps.{around_span, around as around_is, boxed};
-ghost use Rattle.join.specs.Levels.{good_entries};
+ghost use Rattle.tables.specs.Entries.{good_entries};
 ghost use Rattle.join.specs.Boxes.{Holds};
 
 use rules::{Grid, Rect, Span};

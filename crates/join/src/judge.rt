@@ -4,17 +4,9 @@ ghost use Rattle.laws.specs.Lists.{up_to};
 ghost use Rattle.rules.specs.Tables.{runs, bad_lengths, bad_starts, good_run, good_runs};
 ghost use Rattle.rules.specs.Join.{join_verdict};
 ghost use Rattle.rules.specs.Refusals.{as_verdict};
-ghost use Rattle.join.specs.Levels.{good_entries};
 
 use rules::{Grid, Refusal};
 use tables::{Lent, register};
-
-// Whether an entry of a run may not be named.
-fn bad_entries(g: Grid, reg: &[u32], run: &[u32]) -> bool
-    ensures { result ≡ not (good_entries g reg.now run.now) }
-{
-    run.iter().any(|i| tables::bad_entry(g, reg, *i))
-}
 
 // Whether run k shows damage.
 fn bad_run(g: Grid, t: &Lent<'_, u32>, k: usize) -> bool
@@ -24,7 +16,8 @@ fn bad_run(g: Grid, t: &Lent<'_, u32>, k: usize) -> bool
     let starts = t.starts;
     let begin = starts[k] as usize;
     let past = starts[k + 1] as usize;
-    tables::bad_ends(t.entries.len(), begin, past) || bad_entries(g, t.reg, &t.entries[begin..past])
+    tables::bad_ends(t.entries.len(), begin, past)
+        || tables::bad_entries(g, t.reg, &t.entries[begin..past])
 }
 
 // Whether a run of a side shows damage.

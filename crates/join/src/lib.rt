@@ -11,7 +11,6 @@ mod tiles; // tiles.rt: two tiles, and the loops over their classes
 mod runs; // runs.rt: two joined runs, and the loops over their numbers
 
 ghost use Rattle.std.specs.Prelude.{◌≡◌, length};
-ghost use Rattle.rules.specs.Tables.{tables};
 ghost use Rattle.rules.specs.Refusals.{paper_answer, fit};
 ghost use Rattle.rules.specs.Join.{join_pairs, pair_writes, joins};
 ghost use Rattle.laws.specs.Lists.{each};
@@ -22,6 +21,17 @@ use tables::Lent;
 
 // Results of up to this many numbers are kept while they are counted, so that nothing is read twice for them.
 const SMALL: usize = 512;
+
+// The same lent tables once more, to be held beside others.
+fn same_tables<'a>(t: &Lent<'a, u32>) -> Lent<'a, u32>
+    ensures { result ≡ t.now }
+{
+    Lent {
+        reg: t.reg,
+        starts: t.starts,
+        entries: t.entries,
+    }
+}
 
 // The pairs of two sides, where they find room.
 fn write(sides: &Sides<'_>, out: &mut [u32]) -> Result<u64, Refusal>
@@ -46,34 +56,20 @@ fn write(sides: &Sides<'_>, out: &mut [u32]) -> Result<u64, Refusal>
 // (either side), 5 (r over side), 7 (every run of both sides is read), 6; a refusal writes nothing, and output past the pairs is unchanged.
 pub fn join(
     g: Grid,
-    reg_r: &[u32],
-    starts_r: &[u32],
-    entries_r: &[u32],
-    reg_s: &[u32],
-    starts_s: &[u32],
-    entries_s: &[u32],
+    left: &Lent<'_, u32>,
+    right: &Lent<'_, u32>,
     r: u32,
     out: &mut [u32],
 ) -> Result<u64, Refusal>
-    ensures { (paper_answer result, out.new) ≡ joins g (tables reg_r.now starts_r.now entries_r.now) (tables reg_s.now starts_s.now entries_s.now) r out.old }
+    ensures { (paper_answer result, out.new) ≡ joins g left.now right.now r out.old }
 {
-    let left = Lent {
-        reg: reg_r,
-        starts: starts_r,
-        entries: entries_r,
-    };
-    let right = Lent {
-        reg: reg_s,
-        starts: starts_s,
-        entries: entries_s,
-    };
-    judge::judge(g, &left, &right, r)?;
+    judge::judge(g, left, right, r)?;
     let masks = masks::all_marks();
     write(
         &Sides {
             g,
-            left,
-            right,
+            left: same_tables(left),
+            right: same_tables(right),
             r,
             masks,
         },

@@ -7,7 +7,8 @@ ghost use Rattle.rules.specs.Join.{lists};
 ghost use Rattle.grid.specs.Tiles.{Near};
 ghost use Rattle.join.specs.Keeping.{state, kept, most_pairs};
 ghost use Rattle.join.specs.Boxes.{Holds, RunOf, by_distance, apart};
-ghost use Rattle.join.specs.Levels.{good_entries, one_pair, entry_pairs, runs_pairs};
+ghost use Rattle.tables.specs.Entries.{good_entries};
+ghost use Rattle.join.specs.Levels.{one_pair, entry_pairs, runs_pairs};
 
 use super::boxes::{box_of, footprint};
 use super::keep::Found;
@@ -79,19 +80,14 @@ impl Runs<'_> {
         grid::near::within(self.r, a, footprint(self.g, self.right.reg, j))
     }
 
-    // R's number i, whose footprint is a, and S's number j, where they are listed. Without room they are counted alone, so that no step hangs
-    // on the distance.
+    // R's number i, whose footprint is a, and S's number j, where they are listed.
+    #[tactic(auto, unfolding(crate::specs::Levels::one_pair))]
     fn of_two(&self, i: u32, a: Rect, j: u32, found: &mut Found<'_>)
         requires { let s = self.now in (a ≡ rectangle s.g s.left.reg.now i) × Near a × (bad_entry s.g s.right.reg.now j ≡ false) × (found.old.pairs + length (one_pair s.g s.left.reg.now s.right.reg.now s.r s.left.no s.right.no i j) ≤ most_pairs) }
         ensures same_memory { found.new.out.ghost_name ≡ found.old.out.ghost_name }
         ensures kept { let s = self.now in state found.new.pairs found.new.out.now ≡ kept (state found.old.pairs found.old.out.now) (one_pair s.g s.left.reg.now s.right.reg.now s.r s.left.no s.right.no i j) }
     {
-        let near = self.listed(i, a, j);
-        if found.out.len() < 2 * found.pairs as usize + 2 {
-            found.pairs += u64::from(near);
-        } else if near {
-            found.keep(i, j);
-        }
+        found.keep(self.listed(i, a, j), i, j);
     }
 
     // R's number i with the numbers of S's run.

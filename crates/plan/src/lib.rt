@@ -7,7 +7,8 @@ ghost use Rattle.rules.specs.Bytes.{bytes_verdict, builds_bytes, checks_bytes, s
 ghost use Rattle.outward.specs.Outward.{told as told_is, outward, outward₁, outward₂};
 
 use outward::Told;
-use rules::{Grid, Refusal};
+use rules::{Grid, Point, Refusal};
+use tables::Lent;
 
 // ---- build and check
 
@@ -38,7 +39,14 @@ fn check(g: Grid, reg: &[u8], starts: &[u8], entries: &[u8]) -> Result<bool, Ref
     ensures { paper_checked result ≡ checks_bytes g reg.now starts.now entries.now }
 {
     judge(g, reg, starts, entries)?;
-    index::check(g, reg, starts, entries)
+    index::check(
+        g,
+        &Lent {
+            reg,
+            starts,
+            entries,
+        },
+    )
 }
 
 // Builds starts and entries; value: the entries, or what the refusal names.
@@ -82,18 +90,22 @@ fn search(
     reg: &[u8],
     starts: &[u8],
     entries: &[u8],
-    x: u32,
-    y: u32,
+    q: Point,
     r: u32,
     out: &mut [u8],
 ) -> Result<u64, Refusal>
-    ensures { (paper_answer result, out.new) ≡ searches_bytes g reg.now starts.now entries.now (record { x = x; y = y }) r out.old }
+    ensures { (paper_answer result, out.new) ≡ searches_bytes g reg.now starts.now entries.now q r out.old }
 {
     judge(g, reg, starts, entries)?;
     if numbers::off_four(out) {
         return Err(Refusal::Lengths);
     }
-    search::search(g, reg, starts, entries, x, y, r, out)
+    let t = Lent {
+        reg,
+        starts,
+        entries,
+    };
+    search::search(g, &t, q, r, out)
 }
 
 // Searches around a point; value: the hits, or what the refusal names.
@@ -113,5 +125,6 @@ pub extern "C" fn luv_search(
     ensures { (told_is result value.new, out.new) ≡ outward₁ (searches_bytes (record { n = n; side = side }) reg.now starts.now entries.now (record { x = x; y = y }) r out.old) }
 {
     let g = Grid { n, side };
-    Told::from(search(g, reg, starts, entries, x, y, r, out)).tell(value)
+    let q = Point { x, y };
+    Told::from(search(g, reg, starts, entries, q, r, out)).tell(value)
 }

@@ -12,7 +12,8 @@ ghost use Rattle.rules.specs.Walk.{asks, begun};
 ghost use Rattle.outward.specs.Outward.{told as told_is, outward, outward₁, outward₂, outward_run, outward_start, outward_ask, state_of, walk_of};
 
 use outward::Told;
-use rules::{Grid, Part, Probe, Walk};
+use rules::{Grid, Part, Point, Probe, Walk};
+use tables::Lent;
 
 // Builds starts and entries; value: the entries, or what the refusal names.
 #[unsafe(no_mangle)]
@@ -43,7 +44,12 @@ pub extern "C" fn luv_check_n(
     ensures { told_is result value.new ≡ outward (checks (record { n = n; side = side }) reg.now starts.now entries.now) }
 {
     let g = Grid { n, side };
-    Told::from(index::check(g, reg, starts, entries)).tell(value)
+    let t = Lent {
+        reg,
+        starts,
+        entries,
+    };
+    Told::from(index::check(g, &t)).tell(value)
 }
 
 // Where the run of a class in a tile begins among the entries; value: how many it has. Both are 0 where it is refused.
@@ -92,7 +98,12 @@ pub extern "C" fn luv_search_n(
     ensures { (told_is result value.new, out.new) ≡ outward₁ (searches (record { n = n; side = side }) (tables reg.now starts.now entries.now) (record { x = x; y = y }) r out.old) }
 {
     let g = Grid { n, side };
-    Told::from(search::search(g, reg, starts, entries, x, y, r, out)).tell(value)
+    let t = Lent {
+        reg,
+        starts,
+        entries,
+    };
+    Told::from(search::search(g, &t, Point { x, y }, r, out)).tell(value)
 }
 
 // Writes the radius lists of all probes one behind the other, and each list's end; value: the numbers written, or the index of the probe that is
@@ -112,8 +123,12 @@ pub extern "C" fn luv_search_all_n(
     ensures { (told_is result value.new, out.new, ends.new) ≡ outward₂ (searches_all (record { n = n; side = side }) (tables reg.now starts.now entries.now) probes.now out.old ends.old) }
 {
     let g = Grid { n, side };
-    let listed = probes::search_all(g, reg, starts, entries, probes, out, ends);
-    Told::from(listed).tell(value)
+    let t = Lent {
+        reg,
+        starts,
+        entries,
+    };
+    Told::from(probes::search_all(g, &t, probes, out, ends)).tell(value)
 }
 
 // Puts a walk's state where C reads it.
@@ -147,7 +162,12 @@ pub extern "C" fn luv_start_n(
     ensures { (told_is result value.new, (x_after.new, y_after.new, waiting_after.new, mark_after.new), front.new) ≡ outward_start (begun (record { n = n; side = side }) (tables reg.now starts.now entries.now) (record { x = x; y = y }) front.old) }
 {
     let g = Grid { n, side };
-    let started = walk::start(g, reg, starts, entries, x, y, front);
+    let t = Lent {
+        reg,
+        starts,
+        entries,
+    };
+    let started = walk::start(g, &t, Point { x, y }, front);
     tell_state(started.walk, x_after, y_after, waiting_after, mark_after);
     Told::from(started.answer).tell(value)
 }
@@ -177,7 +197,12 @@ pub extern "C" fn luv_ask_n(
 {
     let g = Grid { n, side };
     let before = outward::walk_of(x, y, waiting, mark);
-    let asked = walk::ask(g, reg, starts, entries, front, before, j, out);
+    let t = Lent {
+        reg,
+        starts,
+        entries,
+    };
+    let asked = walk::ask(g, &t, front, before, j, out);
     tell_state(asked.walk, x_after, y_after, waiting_after, mark_after);
     Told::from(asked.answer).tell(value)
 }
@@ -200,8 +225,15 @@ pub extern "C" fn luv_join_n(
     ensures { (told_is result value.new, out.new) ≡ outward₁ (joins (record { n = n; side = side }) (tables reg_r.now starts_r.now entries_r.now) (tables reg_s.now starts_s.now entries_s.now) r out.old) }
 {
     let g = Grid { n, side };
-    let joined = join::join(
-        g, reg_r, starts_r, entries_r, reg_s, starts_s, entries_s, r, out,
-    );
-    Told::from(joined).tell(value)
+    let left = Lent {
+        reg: reg_r,
+        starts: starts_r,
+        entries: entries_r,
+    };
+    let right = Lent {
+        reg: reg_s,
+        starts: starts_s,
+        entries: entries_s,
+    };
+    Told::from(join::join(g, &left, &right, r, out)).tell(value)
 }

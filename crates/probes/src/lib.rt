@@ -7,7 +7,6 @@ mod judging; // judging.rt: what is judged of the list as a whole
 mod listing; // listing.rt: a pass over the probes
 
 ghost use Rattle.std.specs.Prelude.{◌≡◌};
-ghost use Rattle.rules.specs.Tables.{tables};
 ghost use Rattle.rules.specs.Refusals.{paper_listed};
 ghost use Rattle.rules.specs.Probes.{searches_all};
 
@@ -24,25 +23,18 @@ pub const KEPT_ENDS: usize = 512;
 // ends. A refused call writes nothing, and both tables stay as they were past what is written.
 pub fn search_all(
     g: Grid,
-    reg: &[u32],
-    starts: &[u32],
-    entries: &[u32],
+    t: &Lent<'_, u32>,
     probes: &[Probe],
     out: &mut [u32],
     ends: &mut [u64],
 ) -> Result<u64, ListRefusal>
-    ensures { (paper_listed result, out.new, ends.new) ≡ searches_all g (tables reg.now starts.now entries.now) probes.now out.old ends.old }
+    ensures { (paper_listed result, out.new, ends.new) ≡ searches_all g t.now probes.now out.old ends.old }
 {
-    let t = Lent {
-        reg,
-        starts,
-        entries,
-    };
     let count = probes.len();
-    judging::judge(g, &t, count)?;
+    judging::judge(g, t, count)?;
     let mut kept = [0u32; KEPT];
     let mut kept_ends = [0u64; KEPT_ENDS];
-    let total = listing::list_all(g, &t, probes, &mut kept, &mut kept_ends)?;
+    let total = listing::list_all(g, t, probes, &mut kept, &mut kept_ends)?;
     judging::room(total, count, out, ends)?;
     let numbers = total as usize;
     if numbers <= KEPT && count <= KEPT_ENDS {
@@ -50,5 +42,5 @@ pub fn search_all(
         ends[..count].copy_from_slice(&kept_ends[..count]);
         return Ok(total);
     }
-    listing::list_all(g, &t, probes, out, ends)
+    listing::list_all(g, t, probes, out, ends)
 }

@@ -4,7 +4,7 @@ ghost use Rattle.std.specs.Prelude.{◌≡◌, ◌≤◌, ◌<◌, length};
 ghost use Rattle.rules.specs.Probes.{most_probes};
 ghost use Rattle.probes.specs.Listing.{counted, list_at, list_all};
 
-use rules::{Grid, ListRefusal, Probe, Refusal};
+use rules::{Grid, ListRefusal, Point, Probe, Refusal};
 use tables::Lent;
 
 // The answer of search i: the numbers that it wrote, or would write had it found room; or its refusal.
@@ -33,16 +33,11 @@ fn list_at(
     ensures { (result, lent.new) ≡ list_at g t.now probe.now i total lent.old }
 {
     let at = lent.len().min(total as usize);
-    let answer = search::search(
-        g,
-        t.reg,
-        t.starts,
-        t.entries,
-        probe.x,
-        probe.y,
-        probe.r,
-        &mut lent[at..],
-    );
+    let q = Point {
+        x: probe.x,
+        y: probe.y,
+    };
+    let answer = search::search(g, t, q, probe.r, &mut lent[at..]);
     counted(answer, i)
 }
 

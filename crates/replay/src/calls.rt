@@ -2,7 +2,7 @@
 // fails ends the call; what was read of it is lost, and what waits is not written.
 use crate::lent::{Table, Tables};
 use outward::Told;
-use rules::Grid;
+use rules::{Grid, Point};
 use std::io;
 use std::io::{Read, Write};
 use vectors::input::{Reader, State};
@@ -68,6 +68,14 @@ impl<'a, R: Read, W: Write> Replay<'a, R, W> {
         Ok(())
     }
 
+    // The next point: x y.
+    pub(crate) fn next_point(&mut self) -> io::Result<Point> {
+        Ok(Point {
+            x: self.reader.next_as()?,
+            y: self.reader.next_as()?,
+        })
+    }
+
     // The refusal's number and the value.
     pub(crate) fn put_told(&mut self, told: Told) -> io::Result<()> {
         self.lines.put(u64::from(told.number))?;
@@ -101,13 +109,7 @@ impl<'a, R: Read, W: Write> Replay<'a, R, W> {
         if !self.reader.is_open() {
             return Ok(());
         }
-        let checked = index::check(
-            g,
-            t.reg.as_slice(),
-            t.starts.as_slice(),
-            t.entries.as_slice(),
-        );
-        self.put_told(Told::from(checked))
+        self.put_told(Told::from(index::check(g, &t.lend())))
     }
 
     // 3 run: n side starts entries tile class; then where the part begins, and its numbers.
@@ -138,47 +140,27 @@ impl<'a, R: Read, W: Write> Replay<'a, R, W> {
     // 4 search: n side reg starts entries x y r out; then out.
     fn search(&mut self, g: Grid) -> io::Result<()> {
         let t = Tables::next(&mut self.reader)?;
-        let x = self.reader.next_as()?;
-        let y = self.reader.next_as()?;
+        let q = self.next_point()?;
         let r = self.reader.next_as()?;
         let mut out = Table::next(&mut self.reader)?;
         if !self.reader.is_open() {
             return Ok(());
         }
-        let found = search::search(
-            g,
-            t.reg.as_slice(),
-            t.starts.as_slice(),
-            t.entries.as_slice(),
-            x,
-            y,
-            r,
-            out.as_mut_slice(),
-        );
+        let found = search::search(g, &t.lend(), q, r, out.as_mut_slice());
         self.put_told(Told::from(found))?;
         self.lines.put_table(out.as_slice())
     }
 
     // 7 join: n side regR startsR entriesR regS startsS entriesS r out; then out.
     fn join(&mut self, g: Grid) -> io::Result<()> {
-        let tr = Tables::next(&mut self.reader)?;
-        let ts = Tables::next(&mut self.reader)?;
+        let left = Tables::next(&mut self.reader)?;
+        let right = Tables::next(&mut self.reader)?;
         let r = self.reader.next_as()?;
         let mut out = Table::next(&mut self.reader)?;
         if !self.reader.is_open() {
             return Ok(());
         }
-        let joined = join::join(
-            g,
-            tr.reg.as_slice(),
-            tr.starts.as_slice(),
-            tr.entries.as_slice(),
-            ts.reg.as_slice(),
-            ts.starts.as_slice(),
-            ts.entries.as_slice(),
-            r,
-            out.as_mut_slice(),
-        );
+        let joined = join::join(g, &left.lend(), &right.lend(), r, out.as_mut_slice());
         self.put_told(Told::from(joined))?;
         self.lines.put_table(out.as_slice())
     }

@@ -4,6 +4,7 @@ ghost use Rattle.vectors.specs.declared.input.State.TheVariants.{Open};
 
 use std::io;
 use std::io::Read;
+use tables::Lent;
 use vectors::Number;
 use vectors::input::Reader;
 
@@ -57,5 +58,14 @@ impl Tables {
             starts: Table::next(reader)?,
             entries: Table::next(reader)?,
         })
+    }
+
+    // The tables, of exactly their lengths.
+    pub(crate) fn lend(&self) -> Lent<'_, u32> {
+        Lent {
+            reg: self.reg.as_slice(),
+            starts: self.starts.as_slice(),
+            entries: self.entries.as_slice(),
+        }
     }
 }

@@ -29,21 +29,12 @@ impl<R: Read, W: Write> Replay<'_, R, W> {
     // 5 start: n side reg starts entries x y front; then x y waiting mark, front.
     pub(crate) fn start(&mut self, g: Grid) -> io::Result<()> {
         let t = Tables::next(&mut self.reader)?;
-        let x = self.reader.next_as()?;
-        let y = self.reader.next_as()?;
+        let q = self.next_point()?;
         let mut front = Table::next(&mut self.reader)?;
         if !self.reader.is_open() {
             return Ok(());
         }
-        let started = walk::start(
-            g,
-            t.reg.as_slice(),
-            t.starts.as_slice(),
-            t.entries.as_slice(),
-            x,
-            y,
-            front.as_mut_slice(),
-        );
+        let started = walk::start(g, &t.lend(), q, front.as_mut_slice());
         self.put_walked(started)?;
         self.lines.put_table(front.as_slice())
     }
@@ -60,9 +51,7 @@ impl<R: Read, W: Write> Replay<'_, R, W> {
         }
         let asked = walk::ask(
             g,
-            t.reg.as_slice(),
-            t.starts.as_slice(),
-            t.entries.as_slice(),
+            &t.lend(),
             front.as_mut_slice(),
             state,
             j,

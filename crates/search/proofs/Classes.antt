@@ -17,7 +17,8 @@ use Rattle.rules.specs.Search.{allowed_run, allowed_runs}
 use Rattle.rules.specs.declared.Grid.{Grid}
 use Rattle.rules.specs.declared.Point.{Point}
 use Rattle.rules.proofs.Good.{good_runs_append}
-use Rattle.search.specs.Reading.{tile_most, keep_hit, Left, good_entries, hits_in, hits_of, entries_in, good_behind, Lies, Holds, JudgedEntries, JudgedRuns}
+use Rattle.tables.specs.Entries.{good_entries}
+use Rattle.search.specs.Reading.{tile_most, keep_hit, Left, hits_in, hits_of, entries_in, good_behind, Lies, Holds, JudgedEntries, JudgedRuns}
 use Rattle.search.specs.declared.runs.Held.{Held}
 use Rattle.search.proofs.Left.{left_same, left_on, left_bad, left_none}
 use Rattle.search.proofs.Tile.{held, hits_of_append}

@@ -17,7 +17,8 @@ use Rattle.rules.specs.declared.Rect.{Rect}
 use Rattle.rules.proofs.Good.{good_sizes, on_grid, good_span}
 use Rattle.grid.specs.Tiles.{Near}
 use Rattle.grid.proofs.Bounds.{coordinates_most}
-use Rattle.search.specs.Reading.{Placed, keep_hit, kept, good_entries, JudgedEntries}
+use Rattle.tables.specs.Entries.{good_entries}
+use Rattle.search.specs.Reading.{Placed, keep_hit, kept, JudgedEntries}
 
 -- ---- near enough that squares fit
 

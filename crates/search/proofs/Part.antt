@@ -13,7 +13,8 @@ use Rattle.rules.specs.Register.{bad_entry}
 use Rattle.rules.specs.Search.{is_hit}
 use Rattle.rules.specs.declared.Grid.{Grid}
 use Rattle.rules.specs.declared.Point.{Point}
-use Rattle.search.specs.Reading.{keep_hit, Left, good_entries, hits_in, JudgedEntries}
+use Rattle.tables.specs.Entries.{good_entries}
+use Rattle.search.specs.Reading.{keep_hit, Left, hits_in, JudgedEntries}
 use Rattle.search.proofs.Left.{left_all, left_on, left_bad, left_none}
 
 -- of the entries begin..past−1, those from i on are left, and found hits are found

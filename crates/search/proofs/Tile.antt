@@ -18,7 +18,8 @@ use Rattle.rules.specs.Tables.{Tables, run_start, run_end, run_at, bad_ends, goo
 use Rattle.rules.specs.Search.{is_hit}
 use Rattle.rules.specs.declared.Grid.{Grid}
 use Rattle.rules.specs.declared.Point.{Point}
-use Rattle.search.specs.Reading.{good_entries, hits_in, hits_of, entries_in, good_behind, Lies, Holds, JudgedEntries}
+use Rattle.tables.specs.Entries.{good_entries}
+use Rattle.search.specs.Reading.{hits_in, hits_of, entries_in, good_behind, Lies, Holds, JudgedEntries}
 use Rattle.search.specs.declared.runs.Held.{Held}
 use Rattle.search.proofs.Left.{left_all, left_same, left_as, left_on}
 

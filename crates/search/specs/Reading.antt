@@ -1,11 +1,11 @@
 -- What a search reads and finds: entries and runs judged, their hits counted and kept, and what is still to be read. Assumes nothing.
-use Rattle.std.specs.Prelude.{◌≡◌, Bool, true, false, not, ◌&&◌, List, [], ◌∷◌, ◌++◌, ℕ, ◌+◌, ◌-◌, ◌*◌, ◌≤◌, ◌<◌, length, Option, MatchOption}
+use Rattle.std.specs.Prelude.{◌≡◌, Bool, true, false, ◌&&◌, List, [], ◌∷◌, ◌++◌, ℕ, ◌+◌, ◌-◌, ◌*◌, ◌≤◌, ◌<◌, length, Option, MatchOption}
 use Rattle.std.proofs.lemmas.List.Edits.{sets}
-use Rattle.laws.specs.Lists.{filter, each, all, part}
+use Rattle.laws.specs.Lists.{filter, each, part}
 use Rattle.rules.specs.Sizes.{most_tiles, most_entries, bad_sizes, bad_point}
-use Rattle.rules.specs.Register.{bad_entry}
 use Rattle.rules.specs.Tables.{Tables, run_at, good_runs}
 use Rattle.rules.specs.Search.{allowed_run, allowed_runs, visits, is_hit, hit_writes}
+use Rattle.tables.specs.Entries.{good_entries}
 use Rattle.rules.specs.declared.Grid.{Grid}
 use Rattle.rules.specs.declared.Point.{Point}
 use Rattle.grid.specs.Places.{is_on}
@@ -62,10 +62,6 @@ abbrev pub Judged : (ℕ → ℕ → List ℕ → List ℕ) → Bool → List �
 Judged put whole hits most c₀ lent₀ found lent = MatchOption found (whole ≡ false) (λ c. Found put whole hits most c₀ lent₀ c lent)
 
 -- ---- entries, and runs
-
--- every entry may be named
-abbrev pub good_entries : Grid → List ℕ → List ℕ → Bool
-good_entries g reg l = all (λ i. not (bad_entry g reg i)) l
 
 abbrev pub hits_in : Grid → List ℕ → Point → ℕ → List ℕ → List ℕ
 hits_in g reg q r l = filter (is_hit g reg q r) l

@@ -24,8 +24,8 @@ pub(crate) struct Asked<'a, F: Form> {
 
 impl<'a, F: Form> Asked<'a, F> {
     // Judges refusals 1, 2, 4 and 5, in this order.
-    pub(crate) fn new(g: Grid, t: Lent<'a, F>, q: Point, r: u32) -> Result<Self, Refusal>
-        ensures { MatchResult result (λ a. (a.g ≡ g) × (a.t ≡ t.entry) × (a.q ≡ q) × (a.r ≡ r)) (λ v. search_verdict g t.entry q r ≡ refuse v) }
+    pub(crate) fn new(g: Grid, t: &Lent<'a, F>, q: Point, r: u32) -> Result<Self, Refusal>
+        ensures { MatchResult result (λ a. (a.g ≡ g) × (a.t ≡ t.now) × (a.q ≡ q) × (a.r ≡ r)) (λ v. search_verdict g t.now q r ≡ refuse v) }
     {
         if grid::bad_sizes(g) {
             return Err(Refusal::Sizes);
@@ -39,6 +39,11 @@ impl<'a, F: Form> Asked<'a, F> {
         if rules::MOST_RADIUS < r {
             return Err(Refusal::Radius);
         }
+        let t = Lent {
+            reg: t.reg,
+            starts: t.starts,
+            entries: t.entries,
+        };
         Ok(Asked { g, t, q, r })
     }
 }

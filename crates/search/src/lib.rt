@@ -11,7 +11,6 @@ mod boxes; // boxes.rt: the rows and columns of the square's box
 mod keeping; // keeping.rt: a search judged, then written
 
 ghost use Rattle.std.specs.Prelude.{◌≡◌};
-ghost use Rattle.rules.specs.Tables.{tables};
 ghost use Rattle.rules.specs.Refusals.{paper_answer};
 ghost use Rattle.rules.specs.Search.{searches};
 
@@ -30,22 +29,14 @@ const KEPT_WIDE: usize = 2048;
 // search writes nothing, and output past the hits stays as it was. Refusals are judged in the order 1, 2, 4, 5, 7, 6.
 pub fn search<F: Form>(
     g: Grid,
-    reg: &[F],
-    starts: &[F],
-    entries: &[F],
-    x: u32,
-    y: u32,
+    t: &Lent<'_, F>,
+    q: Point,
     r: u32,
     out: &mut [F],
 ) -> Result<u64, Refusal>
-    ensures { (paper_answer result, F.numbers out.new) ≡ searches g (tables (F.numbers reg.now) (F.numbers starts.now) (F.numbers entries.now)) (record { x = x; y = y }) r (F.numbers out.old) }
+    ensures { (paper_answer result, F.numbers out.new) ≡ searches g t.now q r (F.numbers out.old) }
 {
-    let t = Lent {
-        reg,
-        starts,
-        entries,
-    };
-    let asked = Asked::new(g, t, Point { x, y }, r)?;
+    let asked = Asked::new(g, t, q, r)?;
     if r <= g.side / 4 {
         return asked.search_keeping(&mut [0; KEPT], out);
     }

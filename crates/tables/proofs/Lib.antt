@@ -1,3 +1,4 @@
 pub mod Footprints
 pub mod Verdicts
 pub mod Runs
+pub mod Entries

@@ -9,6 +9,7 @@ ghost use Rattle.rules.specs.Register.{numbers, bad_span, bad_entry};
 ghost use Rattle.rules.specs.Tables.{runs, bad_starts, bad_ends};
 ghost use Rattle.rules.specs.Refusals.{paper_ends};
 ghost use Rattle.rules.specs.Build.{bad_run, run_ends, hands_back};
+ghost use Rattle.tables.specs.Entries.{good_entries};
 
 use numbers::Form;
 use rules::{Grid, Part, Rect, Refusal, Span};
@@ -73,6 +74,13 @@ pub fn bad_entry<F: Form>(g: Grid, reg: &[F], i: u32) -> bool
     ensures { result ≡ bad_entry g (F.numbers reg.now) i }
 {
     register::count(reg) <= i as usize || register::bad_footprint(g, reg, i as usize)
+}
+
+// Whether an entry of a run may not be named.
+pub fn bad_entries(g: Grid, reg: &[u32], run: &[u32]) -> bool
+    ensures { result ≡ not (good_entries g reg.now run.now) }
+{
+    run.iter().any(|i| bad_entry(g, reg, *i))
 }
 
 // Whether a run's two starts are damaged, among so many entries.

@@ -29,14 +29,33 @@ pub struct Reader<'a, R> {
 
 impl<'a, R: Read> Reader<'a, R> {
     pub fn new(input: &'a mut R, buffer: &'a mut [u8]) -> Self
-        ensures { result.state ≡ State.Open }
+        ensures state { result.state ≡ State.Open }
+        ensures slice { result.buffer.now ≡ buffer.old }
+        ensures same_reference { result.buffer.ghost_name ≡ buffer.entry.ghost_name }
+    {
+        Self::with(input, buffer, 0, 0, State::Open)
+    }
+
+    // The same from a place in a piece that the buffer holds already.
+    pub fn with(
+        input: &'a mut R,
+        buffer: &'a mut [u8],
+        read: usize,
+        held: usize,
+        state: State,
+    ) -> Self
+        ensures read { result.read ≡ read }
+        ensures held { result.held ≡ held }
+        ensures state { result.state ≡ state }
+        ensures slice { result.buffer.now ≡ buffer.old }
+        ensures same_reference { result.buffer.ghost_name ≡ buffer.entry.ghost_name }
     {
         Reader {
             input,
             buffer,
-            read: 0,
-            held: 0,
-            state: State::Open,
+            read,
+            held,
+            state,
         }
     }
 
@@ -56,6 +75,8 @@ impl<'a, R: Read> Reader<'a, R> {
     pub fn shut(&mut self, state: State) -> u64
         ensures zero { result ≡ 0 }
         ensures state { self.new.state ≡ state }
+        ensures lent { length self.new.buffer.now ≡ length self.old.buffer.now }
+        ensures same_reference { self.new.buffer.ghost_name ≡ self.old.buffer.ghost_name }
     {
         self.state = state;
         0
@@ -65,8 +86,10 @@ impl<'a, R: Read> Reader<'a, R> {
     fn next_byte(&mut self) -> io::Result<Option<u8>>
         ensures state { self.new.state ≡ self.old.state }
         ensures err { OnErr result ((self.new.read ≡ self.old.read) × (self.new.held ≡ self.old.held)) }
+        ensures lent { length self.new.buffer.now ≡ length self.old.buffer.now }
+        ensures same_reference { self.new.buffer.ghost_name ≡ self.old.buffer.ghost_name }
     {
-        if self.held <= self.read {
+        if self.held.min(self.buffer.len()) <= self.read {
             self.held = self.input.read(self.buffer)?;
             self.read = 0;
             if self.held == 0 {
@@ -83,6 +106,8 @@ impl<'a, R: Read> Reader<'a, R> {
     pub fn next_number(&mut self, most: u64) -> io::Result<u64>
         ensures most { IfOk result (λ r. r ≤ most) }
         ensures err { OnErr result (self.new.state ≡ State.Open) }
+        ensures lent { length self.new.buffer.now ≡ length self.old.buffer.now }
+        ensures same_reference { self.new.buffer.ghost_name ≡ self.old.buffer.ghost_name }
     {
         if !self.is_open() {
             return Ok(self.shut(State::Broken));
@@ -106,6 +131,8 @@ impl<'a, R: Read> Reader<'a, R> {
     pub fn next_as<N: Number>(&mut self) -> io::Result<N>
         ensures most { IfOk result (λ r. N.number r ≤ N.MOST) }
         ensures err { OnErr result (self.new.state ≡ State.Open) }
+        ensures lent { length self.new.buffer.now ≡ length self.old.buffer.now }
+        ensures same_reference { self.new.buffer.ghost_name ≡ self.old.buffer.ghost_name }
     {
         Ok(N::narrow(self.next_number(N::MOST)?))
     }
@@ -115,6 +142,8 @@ impl<'a, R: Read> Reader<'a, R> {
     pub fn next_table<N: Number>(&mut self, memory: &mut [N]) -> io::Result<usize>
         ensures within { IfOk result (λ r. r ≤ length memory.new) }
         ensures err { OnErr result (self.new.state ≡ State.Open) }
+        ensures lent { length self.new.buffer.now ≡ length self.old.buffer.now }
+        ensures same_reference { self.new.buffer.ghost_name ≡ self.old.buffer.ghost_name }
     {
         let length = self.next_number(memory.len() as u64)? as usize;
         for place in &mut memory[..length] {

@@ -1,6 +1,6 @@
 // Numbers and tables to an output, as standard output, gathered in a lent slice.
 // After a write that fails some of the bytes that waited may be written, and all of them count as waiting still.
-ghost use Rattle.std.specs.Prelude.{◌≡◌, ◌<◌, ◌≤◌, [], ◌++◌, length, OnOk, OnErr};
+ghost use Rattle.std.specs.Prelude.{◌≡◌, ◌<◌, ◌≤◌, [], ◌++◌, length, cond, leb, OnOk, OnErr};
 
 use std::io;
 use std::io::Write;
@@ -21,12 +21,24 @@ impl<'a, W: Write> Lines<'a, W> {
     ghost use Rattle.vectors.specs.Waits.{waits, room, line};
 
     pub fn new(output: &'a mut W, out: &'a mut [u8]) -> Self
-        ensures { result.waiting ≡ 0 }
+        ensures waiting { result.waiting ≡ 0 }
+        ensures slice { result.out.now ≡ out.old }
+        ensures same_reference { result.out.ghost_name ≡ out.entry.ghost_name }
     {
+        Self::with(output, out, 0)
+    }
+
+    // The same where so many bytes wait in the slice already; more than it holds count as none.
+    pub fn with(output: &'a mut W, out: &'a mut [u8], waiting: usize) -> Self
+        ensures waiting { result.waiting ≡ cond (leb waiting (length out.old)) waiting 0 }
+        ensures slice { result.out.now ≡ out.old }
+        ensures same_reference { result.out.ghost_name ≡ out.entry.ghost_name }
+    {
+        let waiting = if waiting <= out.len() { waiting } else { 0 };
         Lines {
             output,
             out,
-            waiting: 0,
+            waiting,
         }
     }
 
@@ -35,6 +47,7 @@ impl<'a, W: Write> Lines<'a, W> {
         ensures ok { OnOk result (waits self.new ≡ []) }
         ensures err { OnErr result (self.new.waiting ≡ self.old.waiting) }
         ensures lent { length self.new.out.now ≡ length self.old.out.now }
+        ensures same_reference { self.new.out.ghost_name ≡ self.old.out.ghost_name }
     {
         let waiting = self.waiting;
         let bytes = &self.out[..waiting];
@@ -54,6 +67,7 @@ impl<'a, W: Write> Lines<'a, W> {
     fn gather(&mut self, bytes: &[u8])
         ensures text { length bytes.now ≤ room self.old → waits self.new ≡ waits self.old ++ bytes.now }
         ensures lent { length self.new.out.now ≡ length self.old.out.now }
+        ensures same_reference { self.new.out.ghost_name ≡ self.old.out.ghost_name }
     {
         let waiting = self.waiting;
         let count = self.room().min(bytes.len());
@@ -68,6 +82,7 @@ impl<'a, W: Write> Lines<'a, W> {
         ensures afresh { OnOk result (room self.old < 21 → 21 ≤ length self.old.out.now → waits self.new ≡ line n) }
         ensures err { OnErr result (self.new.waiting ≡ self.old.waiting) }
         ensures lent { length self.new.out.now ≡ length self.old.out.now }
+        ensures same_reference { self.new.out.ghost_name ≡ self.old.out.ghost_name }
     {
         if self.room() < LINE {
             self.flush()?;
@@ -80,7 +95,8 @@ impl<'a, W: Write> Lines<'a, W> {
 
     // The numbers of a table. Also where a write fails, no more waits than the slice holds.
     pub fn put_table<N: Copy + Into<u64>>(&mut self, table: &[N]) -> io::Result<()>
-        ensures { length self.new.out.now ≡ length self.old.out.now }
+        ensures lent { length self.new.out.now ≡ length self.old.out.now }
+        ensures same_reference { self.new.out.ghost_name ≡ self.old.out.ghost_name }
     {
         for n in table {
             self.put((*n).into())?;

@@ -16,7 +16,7 @@ use Rattle.rules.specs.Front.{rows, laid}
 use Rattle.rules.specs.Walk.{row_numbers, Machine, machine, spoiled, finish, walk_at, walk_point, ask_verdict, whole_rows, bad_walk, ask_machine, ask_outcome, asks}
 use Rattle.rules.specs.declared.Grid.{Grid}
 use Rattle.rules.specs.declared.Refusal.{Refusal}
-use Rattle.rules.specs.declared.Refusal.TheVariants.{Sizes, Lengths, Place, Damage, Room}
+use Rattle.rules.specs.declared.Refusal.TheVariants.{Damage, Room}
 use Rattle.rules.specs.declared.Three.{Three}
 use Rattle.rules.specs.declared.Walk.{Walk}
 use Rattle.rules.specs.declared.Walked.{Walked}
@@ -85,21 +85,9 @@ module _ (g : Grid) (t : Tables) (w : Walk) (front out front₁ front₂ out₂ 
       (ef ∙ ap (λ (i : ℕ). laid i (drop s.head (rows front₂))) (l₂ ∙ l₁)) o
       ∙ ap (ask_outcome w front j out) (sym (standing_fine front₂ out₂ j s) ∙ ran.is ∙ ends)
 
--- ---- refusals 1, 2, 4, 6, and damage before any row is taken
+-- ---- refusal 6, and damage before any row is taken
 
 module _ (g : Grid) (t : Tables) (front : List ℕ) (w : Walk) (j : ℕ) (out : List ℕ) where
-  pub ask_sizes : bad_sizes g ≡ true → ask_verdict g t w j out ≡ refuse Sizes
-  unfolding ask_verdict
-  ask_sizes a = rw a refl
-
-  pub ask_lengths : bad_sizes g ≡ false → bad_lengths g t ≡ true → ask_verdict g t w j out ≡ refuse Lengths
-  unfolding ask_verdict
-  ask_lengths a b = rw (a, b) refl
-
-  pub ask_place : bad_sizes g ≡ false → bad_lengths g t ≡ false → bad_point g (walk_point w) ≡ true → ask_verdict g t w j out ≡ refuse Place
-  unfolding ask_verdict
-  ask_place a b c = rw (a, b, c) refl
-
   pub ask_refused : (why : Refusal) → ask_verdict g t w j out ≡ refuse why → (r : Walked) → Says r (paper why) w
       → (paper_answer r.answer, r.walk, front, out) ≡ asks g t front w j out
   unfolding asks

@@ -7,7 +7,7 @@ use Prim.Native.Nat.{ℕ, suc, ◌+◌, ◌-◌, ◌*◌, ◌/◌, ◌%◌, ◌�
 use native.Mathlib.Omega.{arith}
 use lib.Dec.{leb}
 use lib.ListN.{length, length-append}
-use borrow.Author.Tests.{le-leb, lt-leb}
+use borrow.Author.Tests.{lt-leb}
 use Rattle.laws.specs.Lists.{keep, filter, from, each}
 use Rattle.laws.proofs.Tests.{fst_true, snd_true}
 use Rattle.laws.proofs.Lists.{each_append}
@@ -20,10 +20,9 @@ use Rattle.rules.specs.Walk.{waiting_row, tile_brings}
 use Rattle.rules.specs.declared.Grid.{Grid}
 use Rattle.rules.specs.declared.Point.{Point}
 use Rattle.rules.specs.declared.Item.TheVariants.{Footprint}
-use Rattle.rules.specs.declared.Three.{Three}
 use Rattle.grid.specs.Places.{is_on}
 use Rattle.rules.proofs.Good.{good_runs_append}
-use Rattle.walk.specs.Fill.{Got, lost, add_all, brought}
+use Rattle.walk.specs.Fill.{Got, add_all, brought}
 use Rattle.walk.specs.Reading.{entry_rows, run_rows, Allows, Counted, Judged}
 
 -- ---- the runs of a tile
@@ -105,9 +104,6 @@ module _ (g : Grid) (t : Tables) where
       pub counts : count + entries_of (left class) ≡ entries_of (left 0)
       pub few : count ≤ class * most_entries
 
-    pub count_all : Counting 0 0
-    count_all = record { most = omega arith; still = refl; counts = omega arith; few = omega arith }
-
     module _ (count class : ℕ) (h : class < 16) (p : Counting count class) where
       good_next : good_runs g t (left 0) ≡ (good_runs g t (one class) && good_runs g t (left (class + 1)))
       good_next = sym p.still ∙ ap (good_runs g t) (runs_next tile mask class h) ∙ good_runs_append g t (one class) (left (class + 1))
@@ -153,13 +149,6 @@ module _ (g : Grid) (t : Tables) where
   -- ---- a tile opened
 
   module _ (q : Point) (tile : ℕ) (got : Got) where
-    pub tile_lost : (new : List Three) → tile_count g ≤ tile → lost ≡ brought got (leb (tile_count g) tile || not (good_runs g t (allowed_runs g q tile))) new
-    tile_lost new h = rw (le-leb (tile_count g) tile h) refl
-
-    pub tile_bad : (new : List Three) → tile < tile_count g → good_runs g t (allowed_runs g q tile) ≡ false
-        → lost ≡ brought got (leb (tile_count g) tile || not (good_runs g t (allowed_runs g q tile))) new
-    tile_bad new h e = rw (lt-leb (tile_count g) tile h, e) refl
-
     pub tile_fine : tile < tile_count g → good_runs g t (allowed_runs g q tile) ≡ true
         → add_all got (run_rows g t q (allowed_runs g q tile))
         ≡ brought got (leb (tile_count g) tile || not (good_runs g t (allowed_runs g q tile))) (map (waiting_row g t.reg q) (tile_brings g t q tile))

@@ -12,7 +12,8 @@ use Rattle.rules.specs.Walk.{waiting_row}
 use Rattle.rules.specs.declared.Grid.{Grid}
 use Rattle.rules.specs.declared.Point.{Point}
 use Rattle.rules.specs.declared.Item.TheVariants.{Footprint}
-use Rattle.walk.specs.Reading.{good_entries, entry_rows}
+use Rattle.tables.specs.Entries.{good_entries}
+use Rattle.walk.specs.Reading.{entry_rows}
 
 module _ (g : Grid) (reg entries : List ℕ) (i : ℕ) where
   pub rows_end : (q : Point) → length entries ≤ i → entry_rows g reg q (drop i entries) ≡ []

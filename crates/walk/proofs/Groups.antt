@@ -5,7 +5,7 @@ use mathlib.Core.List.{List, [], ◌∷◌, ◌++◌, map, map-append}
 use Prim.Native.Nat.{ℕ, suc, ◌+◌, ◌-◌, ◌*◌, ◌/◌, ◌%◌, ◌≤◌, ◌<◌, min}
 use native.Mathlib.Omega.{arith}
 use lib.Dec.{leb, ltb, eqb}
-use borrow.Author.Tests.{ltb-true, leb-true, ne_eqb, eq-eqb}
+use borrow.Author.Tests.{ltb-true, leb-true, ne_eqb}
 use Rattle.laws.specs.Lines.{line}
 use Rattle.rules.specs.Sizes.{column, column_of, row_of, tile_count}
 use Rattle.rules.specs.Span.{at, cover, gap}
@@ -20,7 +20,7 @@ use Rattle.rules.specs.declared.Direction.TheVariants.{Up, Right, Down, Left}
 use Rattle.rules.specs.declared.Item.TheVariants.{Group, Tile}
 use Rattle.rules.specs.declared.Three.{Three}
 use Rattle.rules.proofs.GroupLines.{group_line_law, line_on_grid}
-use Rattle.walk.specs.Fill.{Got, lost, add_all, brought}
+use Rattle.walk.specs.Fill.{Got, add_all, brought}
 use Rattle.walk.specs.Groups.{Lies, item_rows}
 use Rattle.walk.specs.Reading.{Placed}
 use Rattle.walk.specs.declared.group.Tiles.{Tiles}
@@ -142,9 +142,6 @@ module _ (g : Grid) (q : Point) where
   pub tiles_none : (s d i many : ℕ) → many ≤ i → tile_rows s d (many - i) ≡ []
   tiles_none s d i many h = let e : many - i ≡ 0 = omega arith in rw e refl
 
-  pub tiles_all : (s d many : ℕ) → tile_rows s d (many - 0) ≡ tile_rows s d many
-  tiles_all s d many = let e : many - 0 ≡ many = omega arith in rw e refl
-
 -- ---- what a group brings
 
 module _ (g : Grid) (q : Point) (d : Direction) (l : ℕ) where
@@ -164,12 +161,6 @@ module _ (g : Grid) (q : Point) (d : Direction) (l : ℕ) where
 
     pub lies_tiles : line r.start r.apart r.many ≡ group_tiles g q d l
     lies_tiles = let o = columns g q ok in rw (p.start, p.apart, p.many) (sym (group_line_law g q d l o.0 o.1 e))
-
-  pub group_lost : (got : Got) (new : List Three) → l ≡ 0 → lost ≡ brought got (eqb l 0 || not (group_exists g q d l)) new
-  group_lost got new e = rw (eq-eqb l 0 e) refl
-
-  pub group_none : (got : Got) (new : List Three) → (l ≡ 0 → ⊥) → group_exists g q d l ≡ false → lost ≡ brought got (eqb l 0 || not (group_exists g q d l)) new
-  group_none got new h e = rw (ne_eqb l 0 h, e) refl
 
   pub group_brings_law : (got : Got) → (l ≡ 0 → ⊥) → group_exists g q d l ≡ true
       → add_all got (item_rows g q (map Tile (group_tiles g q d l)) ++ item_rows g q (group_if g q (l + 1) d))

@@ -1,15 +1,14 @@
 -- One run: judged and counted, and what it brings where it shows no damage. Assumes nothing.
 use mathlib.Core.Path.{◌≡◌, refl, sym, ap, ◌∙◌}
 use mathlib.Core.Bool.{Bool, true, false, not, ◌&&◌, ◌||◌}
-use mathlib.Core.List.{List, [], ◌∷◌, append-nil}
+use mathlib.Core.List.{[], ◌∷◌, append-nil}
 use Prim.Native.Nat.{ℕ, ◌+◌, ◌-◌, ◌*◌, ◌≤◌, ◌<◌}
 use native.Mathlib.Omega.{arith}
 use lib.Dec.{eqb, ltb}
 use lib.ListN.{length, length-drop}
 use lib.Seq.{length-take-le}
 use borrow.Author.Tests.{eqb-true, ltb-false, not-false}
-use Rattle.std.specs.List.{list_any}
-use Rattle.laws.specs.Lists.{part, all}
+use Rattle.laws.specs.Lists.{part}
 use Rattle.laws.proofs.Tests.{neither, not_not, fst_true, snd_true}
 use Rattle.rules.specs.Sizes.{most_entries, tile_count}
 use Rattle.rules.specs.Register.{bad_register}
@@ -17,16 +16,8 @@ use Rattle.rules.specs.Tables.{Tables, runs, bad_starts, bad_lengths, run_start,
 use Rattle.rules.specs.declared.Grid.{Grid}
 use Rattle.rules.specs.declared.Point.{Point}
 use Rattle.tables.proofs.Runs.{good_ends}
-use Rattle.walk.specs.Reading.{good_entries, entry_rows, run_rows, Counted}
-
-not_either : (a b c : Bool) → b ≡ not c → (a || b) ≡ not (not a && c)
-not_either true b c e = refl
-not_either false b c e = e
-
--- one is bad where not all are good
-pub any_bad : (p : ℕ → Bool) (l : List ℕ) → list_any p l ≡ not (all (λ i. not (p i)) l)
-any_bad p [] = refl
-any_bad p (i ∷ l) = not_either (p i) _ _ (any_bad p l)
+use Rattle.tables.specs.Entries.{good_entries}
+use Rattle.walk.specs.Reading.{entry_rows, run_rows, Counted}
 
 -- the starts of a class in a tile, and the next, stand in the table
 pub starts_stand : (g : Grid) (t : Tables) → bad_lengths g t ≡ false → (tile class : ℕ) → tile < tile_count g → class < 16

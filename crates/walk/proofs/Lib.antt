@@ -11,3 +11,4 @@ pub mod Runs
 pub mod Starting
 pub mod Asking
 pub mod Readiness
+pub mod Opening

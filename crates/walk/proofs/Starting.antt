@@ -1,5 +1,6 @@
 -- A start: all runs of Tq are read, its rows find room, and its refusals in their order. Assumes nothing.
-use Rattle.std.specs.Prelude.{Option, Some, None, Result, Ok, IsSome}
+use Rattle.std.specs.Prelude.{Option, Some, None, Result, Ok, Err, IsSome}
+use Rattle.std.specs.Option.{ok_or}
 use mathlib.Core.Path.{◌≡◌, refl, sym, ap, ap₂, ◌∙◌}
 use mathlib.Core.Bool.{Bool, true, false, cond, not}
 use mathlib.Core.List.{List, [], ◌∷◌, ◌++◌, map, map-append}
@@ -17,7 +18,7 @@ use Rattle.laws.proofs.Counting.{length_each}
 use Rattle.rules.specs.Sizes.{most_footprints, bad_sizes, bad_point, tile_of}
 use Rattle.rules.specs.Register.{numbers, count, bad_register}
 use Rattle.rules.specs.Tables.{Tables, bad_starts, bad_lengths, tile_runs, run_at, good_runs}
-use Rattle.rules.specs.Refusals.{Paper, paper, paper_answer, pass, refuse}
+use Rattle.rules.specs.Refusals.{paper, paper_answer, pass, refuse}
 use Rattle.rules.specs.Search.{allowed_runs}
 use Rattle.rules.specs.Front.{rows, laid, insert_all, directions}
 use Rattle.rules.specs.Walk.{group_exists, group_if, waiting_row, start_entries, start_front, walk_at, refused_walk, start_room, bad_start, start_verdict, begun}
@@ -27,16 +28,13 @@ use Rattle.rules.specs.declared.Direction.{Direction}
 use Rattle.rules.specs.declared.Item.{Item}
 use Rattle.rules.specs.declared.Item.TheVariants.{Group, Footprint}
 use Rattle.rules.specs.declared.Refusal.{Refusal}
-use Rattle.rules.specs.declared.Refusal.TheVariants.{Sizes, Lengths, Place, Damage, Room}
+use Rattle.rules.specs.declared.Refusal.TheVariants.{Damage, Room}
 use Rattle.rules.specs.declared.Three.{Three}
-use Rattle.rules.specs.declared.Walk.{Walk}
-use Rattle.rules.specs.declared.Walked.{Walked}
 use Rattle.rules.proofs.Memory.{length_rows}
 use Rattle.rules.proofs.Report.{own_runs}
 use Rattle.walk.specs.Fill.{fill, Got, lost, kept, add_all, waits, stands, Held, Filled}
 use Rattle.walk.specs.Reading.{Placed, run_rows, Counted}
 use Rattle.walk.specs.Groups.{item_rows}
-use Rattle.walk.specs.Answers.{Says, start_paper, start_walk}
 use Rattle.walk.specs.declared.batch.Fill.{Fill}
 use Rattle.walk.proofs.Adding.{merged_none}
 use Rattle.walk.proofs.Bringing.{add_all_append}
@@ -67,6 +65,11 @@ module _ (g : Grid) (q : Point) (ok : Placed g q) where
       pub good_start : n ≤ count t.reg → bad_start g t q ≡ false
       unfolding bad_start start_entries
       good_start h = rw (← own_is, j.good, ← j.counts, le-ltb (count t.reg) n h) refl
+
+-- what is told where no count is
+pub none_told : (o : Option ℕ) (why d : Refusal) → o ≡ None → ◌≡◌ {A = Result ℕ Refusal} (Err why) (ok_or o d) → why ≡ d
+none_told None why d e v = cc
+none_told (Some n) why d e v = cc
 
 -- ---- its rows
 
@@ -161,21 +164,9 @@ kept_some front batch (Some f) g p r l e = refl
 pub held_is : (front batch : List ℕ) (r : Option Fill) (f : Fill) (g : Got) → Filled front batch r g → r ≡ Some f → Held front batch f g
 held_is front batch r f g p e = rw e at p
 
--- ---- refusals 1, 2, 4, 7, 6
+-- ---- refusals 7, 6, and what a refusal leaves
 
 module _ (g : Grid) (t : Tables) (q : Point) (front : List ℕ) where
-  pub start_sizes : bad_sizes g ≡ true → start_verdict g t q front ≡ refuse Sizes
-  unfolding start_verdict
-  start_sizes a = rw a refl
-
-  pub start_lengths : bad_sizes g ≡ false → bad_lengths g t ≡ true → start_verdict g t q front ≡ refuse Lengths
-  unfolding start_verdict
-  start_lengths a b = rw (a, b) refl
-
-  pub start_place : bad_sizes g ≡ false → bad_lengths g t ≡ false → bad_point g q ≡ true → start_verdict g t q front ≡ refuse Place
-  unfolding start_verdict
-  start_place a b c = rw (a, b, c) refl
-
   module _ (a : bad_sizes g ≡ false) (b : bad_lengths g t ≡ false) (c : bad_point g q ≡ false) where
     pub start_damage : bad_start g t q ≡ true → start_verdict g t q front ≡ refuse Damage
     unfolding start_verdict
@@ -197,8 +188,3 @@ module _ (g : Grid) (t : Tables) (q : Point) (front : List ℕ) where
       → (paper_answer (Ok 0), walk_at q n false, front') ≡ begun g t q front
   unfolding begun
   start_done e front' n ef en = rw (e, ef, en)
-
-  -- told as a start tells it
-  pub start_told : (told : Result ℕ Refusal) (front' : List ℕ) → (start_paper told, start_walk q told, front') ≡ begun g t q front
-      → (w : Walk) → w ≡ start_walk q told → (r : Walked) → Says r (start_paper told) w → (paper_answer r.answer, r.walk, front') ≡ begun g t q front
-  start_told told front' e w ew r s = ap₂ (λ (p : Paper) (x : Walk). (p, x, front')) s.paper (s.walk ∙ ew) ∙ e

@@ -1,9 +1,8 @@
 -- What is read: what was judged before, the runs of a tile by a mask of classes, and what they bring. Assumes nothing.
-use Rattle.std.specs.Prelude.{◌≡◌, Bool, true, false, not, List, map, ℕ, ◌*◌, ◌≤◌, ◌<◌, length, Option, Some, None}
-use Rattle.laws.specs.Lists.{each, all}
+use Rattle.std.specs.Prelude.{◌≡◌, true, false, List, map, ℕ, ◌*◌, ◌≤◌, ◌<◌, length, Option, Some, None}
+use Rattle.laws.specs.Lists.{each}
 use Rattle.rules.specs.Sizes.{most_entries, bad_sizes, bad_point}
-use Rattle.rules.specs.Register.{bad_entry}
-use Rattle.rules.specs.Tables.{Tables, bad_lengths, run_at, good_runs}
+use Rattle.rules.specs.Tables.{Tables, run_at, good_runs}
 use Rattle.rules.specs.Classes.{allowed_in}
 use Rattle.rules.specs.Walk.{waiting_row}
 use Rattle.rules.specs.declared.Grid.{Grid}
@@ -16,15 +15,6 @@ use Rattle.grid.specs.Places.{is_on}
 pub record Placed (g : Grid) (q : Point) : Type 0 where
   pub sizes : bad_sizes g ≡ false
   pub point : bad_point g q ≡ false
-
--- nor does 2
-pub record Ready (g : Grid) (t : Tables) (q : Point) : Type 0 where
-  pub placed : Placed g q
-  pub lengths : bad_lengths g t ≡ false
-
--- every entry may be named
-abbrev pub good_entries : Grid → List ℕ → List ℕ → Bool
-good_entries g reg l = all (λ i. not (bad_entry g reg i)) l
 
 -- entries as waiting rows
 abbrev pub entry_rows : Grid → List ℕ → Point → List ℕ → List Three

@@ -21,67 +21,12 @@ pub(crate) struct Tiles {
     pub(crate) many: u32,
 }
 
-// Whether the group of a direction and a level has its row or column on the grid.
-#[tactic(auto, unfolding(rules::specs::Walk::group_exists, rules::specs::Walk::exists))]
-pub(crate) fn group_exists(w: &Outward<'_>, d: Direction, level: u32) -> bool
-    ensures { result ≡ group_exists w.now.g w.now.q d level }
-{
-    let c = grid::column(w.g, w.q.x);
-    let r = grid::column(w.g, w.q.y);
-    match d {
-        Direction::Up => u64::from(r) + u64::from(level) < u64::from(w.g.n),
-        Direction::Right => u64::from(c) + u64::from(level) < u64::from(w.g.n),
-        Direction::Down => level <= r,
-        Direction::Left => level <= c,
-    }
-}
-
 // The gap from a coordinate to a tile column, or row.
 fn gap_to(g: Grid, c: u32, col: u32) -> u64
     requires { (1 ≤ g.side) × (g.side ≤ 16384) × (col < 64) × (c ≤ 1048576) }
     ensures { (result ≡ gap (at c) (cover g.side col)) × (result ≤ 1048576) }
 {
     u64::from(grid::gap(Span { lo: c, hi: c }, grid::cover(g.side, col)))
-}
-
-// The gap from the point to a group's row or column alone.
-fn group_gap(w: &Outward<'_>, d: Direction, level: u32) -> u64
-    requires { group_exists w.now.g w.now.q d level ≡ true }
-    ensures { (result ≡ group_gap w.now.g w.now.q d level) × (result ≤ 1048576) }
-{
-    let c = grid::column(w.g, w.q.x);
-    let r = grid::column(w.g, w.q.y);
-    match d {
-        Direction::Up => gap_to(w.g, w.q.y, r + level),
-        Direction::Right => gap_to(w.g, w.q.x, c + level),
-        Direction::Down => gap_to(w.g, w.q.y, r - level),
-        Direction::Left => gap_to(w.g, w.q.x, c - level),
-    }
-}
-
-// A group as a waiting row.
-fn group_row(w: &Outward<'_>, d: Direction, level: u32) -> Three
-    requires { group_exists w.now.g w.now.q d level ≡ true }
-    ensures { result ≡ waiting_row w.now.g [] w.now.q (Group d level) }
-{
-    let gap = group_gap(w, d, level);
-    Three::from(Row {
-        square: gap * gap,
-        item: Item::Group(d, level),
-    })
-}
-
-// A tile as a waiting row.
-fn tile_row(w: &Outward<'_>, tile: u32) -> Three
-    requires { tile < tile_count w.now.g }
-    ensures { result ≡ waiting_row w.now.g [] w.now.q (Tile tile) }
-{
-    let dx = gap_to(w.g, w.q.x, tile % w.g.n);
-    let dy = gap_to(w.g, w.q.y, tile / w.g.n);
-    Three::from(Row {
-        square: dx * dx + dy * dy,
-        item: Item::Tile(tile),
-    })
 }
 
 // Row `row`, columns begin up to past.
@@ -108,93 +53,155 @@ fn column_tiles(g: Grid, col: u32, begin: u32, past: u32) -> Tiles
     }
 }
 
-// The tiles of a group, tiles off the grid left out.
-fn group_tiles(w: &Outward<'_>, d: Direction, level: u32) -> Tiles
-    requires { (1 ≤ level) × (group_exists w.now.g w.now.q d level ≡ true) }
-    ensures { Lies (group_line w.now.g w.now.q d level) result }
-{
-    let c = grid::column(w.g, w.q.x);
-    let r = grid::column(w.g, w.q.y);
-    match d {
-        Direction::Up => row_tiles(
-            w.g,
-            r + level,
-            c.saturating_sub(level),
-            (c + level).min(w.g.n),
-        ),
-        Direction::Right => column_tiles(
-            w.g,
-            c + level,
-            (r + 1).saturating_sub(level),
-            (r + level + 1).min(w.g.n),
-        ),
-        Direction::Down => row_tiles(
-            w.g,
-            r - level,
-            (c + 1).saturating_sub(level),
-            (c + level + 1).min(w.g.n),
-        ),
-        Direction::Left => column_tiles(
-            w.g,
-            c - level,
-            r.saturating_sub(level),
-            (r + level).min(w.g.n),
-        ),
+impl Outward<'_> {
+    // Whether the group of a direction and a level has its row or column on the grid.
+    #[tactic(auto, unfolding(rules::specs::Walk::group_exists, rules::specs::Walk::exists))]
+    pub(crate) fn group_exists(&self, d: Direction, level: u32) -> bool
+        ensures { result ≡ group_exists self.now.g self.now.q d level }
+    {
+        let c = grid::column(self.g, self.q.x);
+        let r = grid::column(self.g, self.q.y);
+        match d {
+            Direction::Up => u64::from(r) + u64::from(level) < u64::from(self.g.n),
+            Direction::Right => u64::from(c) + u64::from(level) < u64::from(self.g.n),
+            Direction::Down => level <= r,
+            Direction::Left => level <= c,
+        }
     }
-}
 
-// Tiles on the grid are brought.
-fn add_tiles(
-    w: &Outward<'_>,
-    front: &mut [u64],
-    batch: &mut [u64],
-    mut f: Fill,
-    tiles: Tiles,
-) -> Option<Fill>
-    requires safe { Safe front.old batch.old f }
-    requires few { (tiles.apart ≤ 64) × (tiles.many ≤ 64) }
-    requires on_grid { (j : ℕ) → j < tiles.many → tiles.start + j * tiles.apart < tile_count w.now.g }
-    ensures { Filled front.new batch.new result (add_all (stands front.old batch.old f) (item_rows w.now.g w.now.q (map Tile (line tiles.start tiles.apart tiles.many)))) }
-{
-    for i in 0..tiles.many {
-        f = add(front, batch, f, tile_row(w, tiles.start + i * tiles.apart))?;
+    // The gap from the point to a group's row or column alone.
+    fn group_gap(&self, d: Direction, level: u32) -> u64
+        requires { group_exists self.now.g self.now.q d level ≡ true }
+        ensures { (result ≡ group_gap self.now.g self.now.q d level) × (result ≤ 1048576) }
+    {
+        let c = grid::column(self.g, self.q.x);
+        let r = grid::column(self.g, self.q.y);
+        match d {
+            Direction::Up => gap_to(self.g, self.q.y, r + level),
+            Direction::Right => gap_to(self.g, self.q.x, c + level),
+            Direction::Down => gap_to(self.g, self.q.y, r - level),
+            Direction::Left => gap_to(self.g, self.q.x, c - level),
+        }
     }
-    Some(f)
-}
 
-// A group is brought, if it exists.
-pub(crate) fn add_group(
-    w: &Outward<'_>,
-    front: &mut [u64],
-    batch: &mut [u64],
-    f: Fill,
-    d: Direction,
-    level: u32,
-) -> Option<Fill>
-    requires safe { Safe front.old batch.old f }
-    ensures { Filled front.new batch.new result (add_all (stands front.old batch.old f) (item_rows w.now.g w.now.q (group_if w.now.g w.now.q level d))) }
-{
-    if !group_exists(w, d, level) {
-        return Some(f);
+    // A group as a waiting row.
+    fn group_row(&self, d: Direction, level: u32) -> Three
+        requires { group_exists self.now.g self.now.q d level ≡ true }
+        ensures { result ≡ waiting_row self.now.g [] self.now.q (Group d level) }
+    {
+        let gap = self.group_gap(d, level);
+        Three::from(Row {
+            square: gap * gap,
+            item: Item::Group(d, level),
+        })
     }
-    add(front, batch, f, group_row(w, d, level))
-}
 
-// A group brings its tiles and the next group of its direction, if that exists; no such group is damage.
-pub(crate) fn open_group(
-    w: &Outward<'_>,
-    front: &mut [u64],
-    batch: &mut [u64],
-    f: Fill,
-    d: Direction,
-    level: u32,
-) -> Option<Fill>
-    requires safe { Safe front.old batch.old f }
-    ensures { Filled front.new batch.new result (brought (stands front.old batch.old f) (eqb level 0 || not (group_exists w.now.g w.now.q d level)) (item_rows w.now.g w.now.q (group_brings w.now.g w.now.q d level))) }
-{
-    if level == 0 || !group_exists(w, d, level) {
-        return None;
+    // A tile as a waiting row.
+    fn tile_row(&self, tile: u32) -> Three
+        requires { tile < tile_count self.now.g }
+        ensures { result ≡ waiting_row self.now.g [] self.now.q (Tile tile) }
+    {
+        let dx = gap_to(self.g, self.q.x, tile % self.g.n);
+        let dy = gap_to(self.g, self.q.y, tile / self.g.n);
+        Three::from(Row {
+            square: dx * dx + dy * dy,
+            item: Item::Tile(tile),
+        })
     }
-    let f = add_tiles(w, front, batch, f, group_tiles(w, d, level))?;
-    add_group(w, front, batch, f, d, level + 1)
+
+    // The tiles of a group, tiles off the grid left out.
+    fn group_tiles(&self, d: Direction, level: u32) -> Tiles
+        requires { (1 ≤ level) × (group_exists self.now.g self.now.q d level ≡ true) }
+        ensures { Lies (group_line self.now.g self.now.q d level) result }
+    {
+        let c = grid::column(self.g, self.q.x);
+        let r = grid::column(self.g, self.q.y);
+        match d {
+            Direction::Up => row_tiles(
+                self.g,
+                r + level,
+                c.saturating_sub(level),
+                (c + level).min(self.g.n),
+            ),
+            Direction::Right => column_tiles(
+                self.g,
+                c + level,
+                (r + 1).saturating_sub(level),
+                (r + level + 1).min(self.g.n),
+            ),
+            Direction::Down => row_tiles(
+                self.g,
+                r - level,
+                (c + 1).saturating_sub(level),
+                (c + level + 1).min(self.g.n),
+            ),
+            Direction::Left => column_tiles(
+                self.g,
+                c - level,
+                r.saturating_sub(level),
+                (r + level).min(self.g.n),
+            ),
+        }
+    }
+
+    // Tiles on the grid are brought.
+    fn add_tiles(
+        &self,
+        front: &mut [u64],
+        batch: &mut [u64],
+        mut f: Fill,
+        tiles: Tiles,
+    ) -> Option<Fill>
+        requires safe { Safe front.old batch.old f }
+        requires few { (tiles.apart ≤ 64) × (tiles.many ≤ 64) }
+        requires on_grid { (j : ℕ) → j < tiles.many → tiles.start + j * tiles.apart < tile_count self.now.g }
+        ensures { Filled front.new batch.new result (add_all (stands front.old batch.old f) (item_rows self.now.g self.now.q (map Tile (line tiles.start tiles.apart tiles.many)))) }
+    {
+        for i in 0..tiles.many {
+            f = add(
+                front,
+                batch,
+                f,
+                self.tile_row(tiles.start + i * tiles.apart),
+            )?;
+        }
+        Some(f)
+    }
+
+    // A group is brought, if it exists.
+    pub(crate) fn add_group(
+        &self,
+        front: &mut [u64],
+        batch: &mut [u64],
+        f: Fill,
+        d: Direction,
+        level: u32,
+    ) -> Option<Fill>
+        requires safe { Safe front.old batch.old f }
+        ensures { Filled front.new batch.new result (add_all (stands front.old batch.old f) (item_rows self.now.g self.now.q (group_if self.now.g self.now.q level d))) }
+    {
+        if !self.group_exists(d, level) {
+            return Some(f);
+        }
+        add(front, batch, f, self.group_row(d, level))
+    }
+
+    // A group brings its tiles and the next group of its direction, if that exists; no such group is damage.
+    pub(crate) fn open_group(
+        &self,
+        front: &mut [u64],
+        batch: &mut [u64],
+        f: Fill,
+        d: Direction,
+        level: u32,
+    ) -> Option<Fill>
+        requires safe { Safe front.old batch.old f }
+        ensures { Filled front.new batch.new result (brought (stands front.old batch.old f) (eqb level 0 || not (group_exists self.now.g self.now.q d level)) (item_rows self.now.g self.now.q (group_brings self.now.g self.now.q d level))) }
+    {
+        if level == 0 || !self.group_exists(d, level) {
+            return None;
+        }
+        let f = self.add_tiles(front, batch, f, self.group_tiles(d, level))?;
+        self.add_group(front, batch, f, d, level + 1)
+    }
 }

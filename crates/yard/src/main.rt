@@ -5,9 +5,10 @@
 
 ghost use Rattle.std.specs.Prelude.{◌+◌, ◌*◌, ◌≤◌, length, IfOk};
 
-use rules::{Grid, Refusal};
+use rules::{Grid, Point, Refusal};
 use sheet::Page;
 use std::io::{self, Read, Write};
+use tables::Lent;
 
 // The starts of 16 runs for each of the most tiles, and the most entries.
 const STARTS: usize = 16 * (sheet::MOST_TILES * sheet::MOST_TILES) as usize + 1;
@@ -38,31 +39,19 @@ impl From<io::Error> for Stop {
     }
 }
 
-// A register and its index.
-#[derive(Clone, Copy)]
+// A grid, a register and its index.
+#[derive(Drop)]
 struct Yard<'a> {
     g: Grid,
-    reg: &'a [u32],
-    starts: &'a [u32],
-    entries: &'a [u32],
+    t: Lent<'a, u32>,
 }
 
 impl Yard<'_> {
     // Answers and prints one question, and says whether it was refused.
-    fn ask<W: Write>(&self, output: &mut W, x: u32, y: u32, r: u32) -> io::Result<bool> {
+    fn ask<W: Write>(&self, output: &mut W, q: Point, r: u32) -> io::Result<bool> {
         let mut hits = [0u32; HITS];
         let mut out = [0u8; OUTPUT];
-        let answer = answers::answer(
-            self.g,
-            self.reg,
-            self.starts,
-            self.entries,
-            x,
-            y,
-            r,
-            &mut hits,
-            &mut out,
-        );
+        let answer = answers::answer(self.g, &self.t, q, r, &mut hits, &mut out);
         let (Ok(count) | Err(count)) = answer;
         output.write_all(&out[..count])?;
         Ok(answer.is_err())
@@ -71,7 +60,11 @@ impl Yard<'_> {
     // Asks questions of three numbers each, until one is refused.
     fn ask_all<W: Write>(&self, output: &mut W, questions: &[u32]) -> io::Result<()> {
         for question in questions.chunks_exact(3) {
-            if self.ask(output, question[0], question[1], question[2])? {
+            let q = Point {
+                x: question[0],
+                y: question[1],
+            };
+            if self.ask(output, q, question[2])? {
                 break;
             }
         }
@@ -109,13 +102,12 @@ fn answer_all<W: Write>(output: &mut W, numbers: &[u32], footprints: u32) -> Res
     let mut entries = [0u32; ENTRIES];
     let starts = &mut starts[..16 * grid::tile_count(g) + 1];
     index::build(g, reg, starts, &mut entries)?;
-    let yard = Yard {
-        g,
+    let t = Lent {
         reg,
         starts,
         entries: &entries,
     };
-    yard.ask_all(output, questions)?;
+    Yard { g, t }.ask_all(output, questions)?;
     Ok(())
 }
 

@@ -1,7 +1,4 @@
 -- `probes::listing::list_at` meets its contract: a search in what is left of what is lent, and the numbers that it counts. Assumes nothing.
-use mathlib.Core.Path.{ap, ◌∙◌}
-use Rattle.rules.specs.Tables.{Tables}
-use Rattle.probes.specs.Listing.{list_at}
 use Rattle.probes.proofs.Searched.{searched}
 use Rattle.probes.proofs.listing.list_at.Goals as goal
 
@@ -9,4 +6,3 @@ pub returns : goal.returns
 returns c =
     let a = c.args in
     searched a.g _ a.probe.now a.i a.total a.lent.now _ c.min-at.ensures _ _ c.search-answer.ensures _ c.counted.ensures
-    ∙ ap (λ (t : Tables). list_at a.g t a.probe.now a.i a.total a.lent.now) c.t.view_is

@@ -2,7 +2,7 @@
 use mathlib.Core.Path.{◌≡◌, refl, sym, ap, subst}
 use mathlib.Core.Bool.{true}
 use Rattle.rules.specs.Tables.{Tables}
-use Rattle.join.specs.Levels.{good_entries}
+use Rattle.tables.specs.Entries.{good_entries}
 use Rattle.join.proofs.runs.Run.new.Goals as goal
 
 pub box_of-requires : goal.box_of-requires

@@ -13,7 +13,7 @@ use Rattle.search.proofs.asked.Asked.new.Goals as goal
 sizes : (form : given.Over) (c : Else-bad_sizes form) → bad_sizes c.args.g ≡ false
 sizes form c = sym c.bad_sizes.ensures ∙ c.if-bad_sizes.false
 
-lengths : (form : given.Over) (c : After-bad_lengths form) → bad_lengths c.args.g c.args.t ≡ c.bad_lengths.result
+lengths : (form : given.Over) (c : After-bad_lengths form) → bad_lengths c.args.g c.args.t.now ≡ c.bad_lengths.result
 unfolding bad_lengths
 lengths form c = ap (λ (t : Tables). bad_register t.reg || bad_starts c.args.g t.starts) (sym c.t.view_is) ∙ sym c.bad_lengths.ensures
 
@@ -42,7 +42,7 @@ pub invariant_of-result-clause-sizes : goal.invariant_of-result-clause-sizes
 invariant_of-result-clause-sizes form c = sizes form (goal.at.invariant_of-result-clause-sizes form c).Else-bad_sizes
 
 pub invariant_of-result-clause-lengths : goal.invariant_of-result-clause-lengths
-invariant_of-result-clause-lengths form c = lengths form (goal.at.invariant_of-result-clause-lengths form c).After-bad_lengths ∙ c.if-bad_lengths.false
+invariant_of-result-clause-lengths form c = ap (bad_lengths c.args.g) c.t.view_is ∙ lengths form (goal.at.invariant_of-result-clause-lengths form c).After-bad_lengths ∙ c.if-bad_lengths.false
 
 pub invariant_of-result-clause-place : goal.invariant_of-result-clause-place
 invariant_of-result-clause-place form c = place form (goal.at.invariant_of-result-clause-place form c).Else-bad_point
