@@ -59,6 +59,13 @@ impl<'a, R: Read> Reader<'a, R> {
         }
     }
 
+    // Where the reading stands, as `with` takes it: how many bytes of the piece are read, how many it has, and whether more may come.
+    pub fn place(&self) -> (usize, usize, State)
+        ensures { result ≡ (self.now.read, self.now.held, self.now.state) }
+    {
+        (self.read, self.held, self.state)
+    }
+
     pub fn is_open(&self) -> bool
         ensures { IsTrue result ↔ self.now.state ≡ State.Open }
     {
@@ -71,10 +78,12 @@ impl<'a, R: Read> Reader<'a, R> {
         self.state == State::Over
     }
 
-    // Ends the reading; what is read from then on is 0.
+    // Ends the reading; what is read from then on is 0. The piece and the place in it stay.
     pub fn shut(&mut self, state: State) -> u64
         ensures zero { result ≡ 0 }
         ensures state { self.new.state ≡ state }
+        ensures place { (self.new.read ≡ self.old.read) × (self.new.held ≡ self.old.held) }
+        ensures slice { self.new.buffer.now ≡ self.old.buffer.now }
         ensures lent { length self.new.buffer.now ≡ length self.old.buffer.now }
         ensures same_reference { self.new.buffer.ghost_name ≡ self.old.buffer.ghost_name }
     {

@@ -42,16 +42,27 @@ impl<'a, W: Write> Lines<'a, W> {
         }
     }
 
-    // Writes the bytes that wait.
+    // The bytes that wait.
+    pub fn waiting(&self) -> &[u8]
+        ensures { result.now ≡ waits self.now }
+    {
+        &self.out[..self.waiting]
+    }
+
+    // Writes the bytes that wait. The slice stays as it was, so that after a write that fails the same bytes wait.
     pub fn flush(&mut self) -> io::Result<()>
         ensures ok { OnOk result (waits self.new ≡ []) }
         ensures err { OnErr result (self.new.waiting ≡ self.old.waiting) }
+        ensures slice { self.new.out.now ≡ self.old.out.now }
         ensures lent { length self.new.out.now ≡ length self.old.out.now }
         ensures same_reference { self.new.out.ghost_name ≡ self.old.out.ghost_name }
     {
         let waiting = self.waiting;
-        let bytes = &self.out[..waiting];
-        self.output.write_all(bytes)?;
+        // held apart while it is read: read through self, it would be known by its length alone behind it
+        let out = std::mem::take(&mut self.out);
+        let written = self.output.write_all(&out[..waiting]);
+        self.out = out;
+        written?;
         self.waiting = 0;
         Ok(())
     }
