@@ -1,6 +1,6 @@
 // The calls: each reads its parameters, lends them as tables of exactly their lengths, and puts the answer. A read or a write that
 // fails ends the call; what was read of it is lost, and what waits is not written.
-use crate::lent::{Table, Tables};
+use crate::lent::{Memory, Tables};
 use outward::Told;
 use rules::{Grid, Point};
 use std::io;
@@ -32,7 +32,7 @@ impl<'a, R: Read, W: Write> Replay<'a, R, W> {
     }
 
     // Answers calls, and writes the answers: whether the input ended before a call, and did not break.
-    pub(crate) fn answer_all(&mut self) -> io::Result<bool> {
+    pub(crate) fn answer_all(&mut self, memory: &mut Memory) -> io::Result<bool> {
         for _ in 0..CALLS {
             let code = self.reader.next_number(u64::MAX)?;
             if self.reader.is_over() {
@@ -43,14 +43,14 @@ impl<'a, R: Read, W: Write> Replay<'a, R, W> {
                 side: self.reader.next_as()?,
             };
             match code {
-                1 => self.build(g)?,
-                2 => self.check(g)?,
-                3 => self.run(g)?,
-                4 => self.search(g)?,
-                5 => self.start(g)?,
-                6 => self.ask(g)?,
-                7 => self.join(g)?,
-                _ => self.unknown()?,
+                1 => self.build(g, memory)?,
+                2 => self.check(g, memory)?,
+                3 => self.run(g, memory)?,
+                4 => self.search(g, memory)?,
+                5 => self.start(g, memory)?,
+                6 => self.ask(g, memory)?,
+                7 => self.join(g, memory)?,
+                _ => self.unknown(memory)?,
             }
             if !self.reader.is_open() {
                 self.lines.flush()?;
@@ -62,8 +62,8 @@ impl<'a, R: Read, W: Write> Replay<'a, R, W> {
     }
 
     // At an unknown code the input counts as broken, behind three tables.
-    fn unknown(&mut self) -> io::Result<()> {
-        Tables::next(&mut self.reader)?;
+    fn unknown(&mut self, memory: &mut Memory) -> io::Result<()> {
+        memory.left.read(&mut self.reader)?;
         self.reader.shut(State::Broken);
         Ok(())
     }
@@ -83,29 +83,27 @@ impl<'a, R: Read, W: Write> Replay<'a, R, W> {
     }
 
     // 1 build: n side reg starts entries; then starts, entries.
-    fn build(&mut self, g: Grid) -> io::Result<()> {
-        let Tables {
-            reg,
-            mut starts,
-            mut entries,
-        } = Tables::next(&mut self.reader)?;
+    fn build(&mut self, g: Grid, memory: &mut Memory) -> io::Result<()> {
+        let t = &mut memory.left;
+        t.read(&mut self.reader)?;
         if !self.reader.is_open() {
             return Ok(());
         }
         let built = index::build(
             g,
-            reg.as_slice(),
-            starts.as_mut_slice(),
-            entries.as_mut_slice(),
+            t.reg.as_slice(),
+            t.starts.as_mut_slice(),
+            t.entries.as_mut_slice(),
         );
         self.put_told(Told::from(built))?;
-        self.lines.put_table(starts.as_slice())?;
-        self.lines.put_table(entries.as_slice())
+        self.lines.put_table(t.starts.as_slice())?;
+        self.lines.put_table(t.entries.as_slice())
     }
 
     // 2 check: n side reg starts entries; then nothing.
-    fn check(&mut self, g: Grid) -> io::Result<()> {
-        let t = Tables::next(&mut self.reader)?;
+    fn check(&mut self, g: Grid, memory: &mut Memory) -> io::Result<()> {
+        let t = &mut memory.left;
+        t.read(&mut self.reader)?;
         if !self.reader.is_open() {
             return Ok(());
         }
@@ -113,15 +111,16 @@ impl<'a, R: Read, W: Write> Replay<'a, R, W> {
     }
 
     // 3 run: n side starts entries tile class; then where the part begins, and its numbers.
-    fn run(&mut self, g: Grid) -> io::Result<()> {
-        let starts = Table::next(&mut self.reader)?;
-        let entries = Table::next(&mut self.reader)?;
+    fn run(&mut self, g: Grid, memory: &mut Memory) -> io::Result<()> {
+        let t = &mut memory.left;
+        t.starts.read(&mut self.reader)?;
+        t.entries.read(&mut self.reader)?;
         let tile = self.reader.next_as()?;
         let class = self.reader.next_as()?;
         if !self.reader.is_open() {
             return Ok(());
         }
-        let (starts, entries) = (starts.as_slice(), entries.as_slice());
+        let (starts, entries) = (t.starts.as_slice(), t.entries.as_slice());
         match tables::run_ends(g, starts, entries.len(), tile, class) {
             Ok(part) => {
                 let run = tables::run(g, starts, entries, tile, class);
@@ -138,30 +137,37 @@ impl<'a, R: Read, W: Write> Replay<'a, R, W> {
     }
 
     // 4 search: n side reg starts entries x y r out; then out.
-    fn search(&mut self, g: Grid) -> io::Result<()> {
-        let t = Tables::next(&mut self.reader)?;
+    fn search(&mut self, g: Grid, memory: &mut Memory) -> io::Result<()> {
+        memory.left.read(&mut self.reader)?;
         let q = self.next_point()?;
         let r = self.reader.next_as()?;
-        let mut out = Table::next(&mut self.reader)?;
+        memory.out.read(&mut self.reader)?;
         if !self.reader.is_open() {
             return Ok(());
         }
-        let found = search::search(g, &t.lend(), q, r, out.as_mut_slice());
+        let found = search::search(g, &memory.left.lend(), q, r, memory.out.as_mut_slice());
         self.put_told(Told::from(found))?;
-        self.lines.put_table(out.as_slice())
+        self.lines.put_table(memory.out.as_slice())
     }
 
     // 7 join: n side regR startsR entriesR regS startsS entriesS r out; then out.
-    fn join(&mut self, g: Grid) -> io::Result<()> {
-        let left = Tables::next(&mut self.reader)?;
-        let right = Tables::next(&mut self.reader)?;
+    fn join(&mut self, g: Grid, memory: &mut Memory) -> io::Result<()> {
+        memory.left.read(&mut self.reader)?;
+        let mut right = Tables::new();
+        right.read(&mut self.reader)?;
         let r = self.reader.next_as()?;
-        let mut out = Table::next(&mut self.reader)?;
+        memory.out.read(&mut self.reader)?;
         if !self.reader.is_open() {
             return Ok(());
         }
-        let joined = join::join(g, &left.lend(), &right.lend(), r, out.as_mut_slice());
+        let joined = join::join(
+            g,
+            &memory.left.lend(),
+            &right.lend(),
+            r,
+            memory.out.as_mut_slice(),
+        );
         self.put_told(Told::from(joined))?;
-        self.lines.put_table(out.as_slice())
+        self.lines.put_table(memory.out.as_slice())
     }
 }

@@ -1,4 +1,4 @@
-// Tables in memory of their own, as a call lends them.
+// Tables in memory of their own: a call's are read where they lie, and lent at exactly their lengths.
 ghost use Rattle.std.specs.Prelude.{◌≡◌, ◌≤◌, OnErr};
 ghost use Rattle.vectors.specs.declared.input.State.TheVariants.{Open};
 
@@ -20,13 +20,19 @@ pub(crate) struct Table<N> {
 }
 
 impl<N: Number> Table<N> {
-    // The next table.
-    pub(crate) fn next<R: Read>(reader: &mut Reader<R>) -> io::Result<Table<N>>
+    pub(crate) fn new() -> Table<N> {
+        Table {
+            memory: [N::narrow(0); MOST],
+            length: 0,
+        }
+    }
+
+    // The next table, read into this one's memory.
+    pub(crate) fn read<R: Read>(&mut self, reader: &mut Reader<R>) -> io::Result<()>
         ensures { OnErr result (reader.new.state ≡ Open) }
     {
-        let mut memory = [N::narrow(0); MOST];
-        let length = reader.next_table(&mut memory)?;
-        Ok(Table { memory, length })
+        self.length = reader.next_table(&mut self.memory)?;
+        Ok(())
     }
 
     pub(crate) fn as_slice(&self) -> &[N] {
@@ -49,15 +55,21 @@ pub(crate) struct Tables {
 }
 
 impl Tables {
-    // The next three tables.
-    pub(crate) fn next<R: Read>(reader: &mut Reader<R>) -> io::Result<Tables>
+    pub(crate) fn new() -> Tables {
+        Tables {
+            reg: Table::new(),
+            starts: Table::new(),
+            entries: Table::new(),
+        }
+    }
+
+    // The next three tables, read into these ones' memory.
+    pub(crate) fn read<R: Read>(&mut self, reader: &mut Reader<R>) -> io::Result<()>
         ensures { OnErr result (reader.new.state ≡ Open) }
     {
-        Ok(Tables {
-            reg: Table::next(reader)?,
-            starts: Table::next(reader)?,
-            entries: Table::next(reader)?,
-        })
+        self.reg.read(reader)?;
+        self.starts.read(reader)?;
+        self.entries.read(reader)
     }
 
     // The tables, of exactly their lengths.
@@ -66,6 +78,23 @@ impl Tables {
             reg: self.reg.as_slice(),
             starts: self.starts.as_slice(),
             entries: self.entries.as_slice(),
+        }
+    }
+}
+
+// The tables that most calls read: a register and its index, and an output of hits or pairs. They are large, so they are made once and neither
+// moved nor cleared from call to call: a call sees no further than the lengths of its own. What a join or a walk reads beside them it makes.
+#[derive(Drop)]
+pub(crate) struct Memory {
+    pub(crate) left: Tables,
+    pub(crate) out: Table<u32>,
+}
+
+impl Memory {
+    pub(crate) fn new() -> Memory {
+        Memory {
+            left: Tables::new(),
+            out: Table::new(),
         }
     }
 }

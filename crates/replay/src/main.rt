@@ -8,6 +8,7 @@ mod lent; // lent.rt: the tables that a call lends
 mod walks; // walks.rt: the calls of a walk
 
 use calls::Replay;
+use lent::Memory;
 use std::io;
 use std::io::{Read, Write};
 
@@ -21,8 +22,9 @@ fn replay<R: Read, W: Write>(
     output: &mut W,
     out: &mut [u8],
 ) -> io::Result<()> {
+    let mut memory = Memory::new();
     let mut replay = Replay::new(input, buffer, output, out);
-    if !replay.answer_all()? {
+    if !replay.answer_all(&mut memory)? {
         output.write_all(b"stop\n")?;
     }
     Ok(())

@@ -1,6 +1,6 @@
 // The calls of a walk: a start and an ask.
 use crate::calls::Replay;
-use crate::lent::{Table, Tables};
+use crate::lent::{Memory, Table};
 use outward::Told;
 use rules::{Grid, Walk, Walked};
 use std::io;
@@ -27,31 +27,34 @@ impl<R: Read, W: Write> Replay<'_, R, W> {
     }
 
     // 5 start: n side reg starts entries x y front; then x y waiting mark, front.
-    pub(crate) fn start(&mut self, g: Grid) -> io::Result<()> {
-        let t = Tables::next(&mut self.reader)?;
+    pub(crate) fn start(&mut self, g: Grid, memory: &mut Memory) -> io::Result<()> {
+        memory.left.read(&mut self.reader)?;
         let q = self.next_point()?;
-        let mut front = Table::next(&mut self.reader)?;
+        let mut front = Table::new();
+        front.read(&mut self.reader)?;
         if !self.reader.is_open() {
             return Ok(());
         }
-        let started = walk::start(g, &t.lend(), q, front.as_mut_slice());
+        let started = walk::start(g, &memory.left.lend(), q, front.as_mut_slice());
         self.put_walked(started)?;
         self.lines.put_table(front.as_slice())
     }
 
     // 6 ask: n side reg starts entries front x y waiting mark j out; then x y waiting mark, front, out.
-    pub(crate) fn ask(&mut self, g: Grid) -> io::Result<()> {
-        let t = Tables::next(&mut self.reader)?;
-        let mut front = Table::next(&mut self.reader)?;
+    pub(crate) fn ask(&mut self, g: Grid, memory: &mut Memory) -> io::Result<()> {
+        memory.left.read(&mut self.reader)?;
+        let mut front = Table::new();
+        front.read(&mut self.reader)?;
         let state = self.next_walk()?;
         let j = self.reader.next_as()?;
-        let mut out = Table::next(&mut self.reader)?;
+        let mut out = Table::new();
+        out.read(&mut self.reader)?;
         if !self.reader.is_open() {
             return Ok(());
         }
         let asked = walk::ask(
             g,
-            &t.lend(),
+            &memory.left.lend(),
             front.as_mut_slice(),
             state,
             j,
