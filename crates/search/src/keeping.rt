@@ -36,4 +36,13 @@ impl<F: Form> Asked<'_, F> {
         }
         Ok(count as u64)
     }
+
+    // The search, which keeps the first N hits. Its array is zeroed once, since nothing comes before it here: where a function may end before it
+    // makes an array, the array is zeroed at its beginning too.
+    pub(crate) fn search_first<const N: usize>(&self, out: &mut [F]) -> Result<u64, Refusal>
+        requires { N ≤ 2048 }
+        ensures { (paper_answer result, F.numbers out.new) ≡ searches self.now.g self.now.t self.now.q self.now.r (F.numbers out.old) }
+    {
+        self.search_keeping(&mut [0; N], out)
+    }
 }

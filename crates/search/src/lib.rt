@@ -38,7 +38,7 @@ pub fn search<F: Form>(
 {
     let asked = Asked::new(g, t, q, r)?;
     if r <= g.side / 4 {
-        return asked.search_keeping(&mut [0; KEPT], out);
+        return asked.search_first::<KEPT>(out);
     }
-    asked.search_keeping(&mut [0; KEPT_WIDE], out)
+    asked.search_first::<KEPT_WIDE>(out)
 }
