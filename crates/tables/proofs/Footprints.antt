@@ -9,17 +9,12 @@ use Rattle.std.specs.Prelude.{Some, None}
 use Rattle.laws.specs.Lists.{filter, from, up_to}
 use Rattle.laws.proofs.Remaining.{next_left, none_left}
 use Rattle.rules.specs.Register.{count}
-use Rattle.tables.specs.First.{first_of}
+use Rattle.tables.specs.First.{first_of, Sought}
 
 -- a footprint's four numbers stand in the register
 pub four_stand : (reg : List ℕ) (i : ℕ) → i < count reg → 4 * i + 4 ≤ length reg
 unfolding count
 four_stand reg i h = omega arith
-
--- the first of those from i on is the first of all
-pub record Sought (p : ℕ → Bool) (n i : ℕ) : Type 0 where
-  pub most : i ≤ n
-  pub rest : first_of (filter p (from i (n - i))) ≡ first_of (filter p (up_to n))
 
 module _ (p : ℕ → Bool) (n : ℕ) where
   pub sought_all : Sought p n 0

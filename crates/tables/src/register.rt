@@ -1,9 +1,9 @@
 // The register and the starts read and judged: the only module that knows where a footprint's numbers stand.
 
-ghost use Rattle.std.specs.Prelude.{◌≡◌, [], ◌<◌};
+ghost use Rattle.std.specs.Prelude.{◌≡◌, true, [], ◌<◌};
 ghost use Rattle.rules.specs.Register.{count as count_is, rectangle, bad_footprint, bad_footprints};
 ghost use Rattle.rules.specs.Tables.{tables, bad_lengths};
-ghost use Rattle.tables.specs.First.{first_of};
+ghost use Rattle.tables.specs.First.{first_of, Sought};
 
 use numbers::Form;
 use rules::{Grid, Rect, Span};
@@ -49,14 +49,28 @@ pub fn bad_footprint<F: Form>(g: Grid, reg: &[F], i: usize) -> bool
     crate::bad_rect(g, footprint(g, reg, i))
 }
 
-// The lowest footprint that meets refusal 3, if one does.
+// How many footprints stand ahead of the first that meets refusal 3: all of them, where none does.
+fn ahead_of_bad<F: Form>(g: Grid, reg: &[F]) -> usize
+    ensures sought { Sought (bad_footprint g (F.numbers reg.now)) (count_is (F.numbers reg.now)) result }
+    ensures bad { result < count_is (F.numbers reg.now) → bad_footprint g (F.numbers reg.now) result ≡ true }
+{
+    let all = count(reg);
+    for i in 0..all {
+        if bad_footprint(g, reg, i) {
+            return i;
+        }
+    }
+    all
+}
+
+// The lowest footprint that meets refusal 3, if one does. It is told apart behind the loop, so that the loop does nothing but look.
 pub fn first_bad<F: Form>(g: Grid, reg: &[F]) -> Option<usize>
     ensures { result ≡ first_of (bad_footprints g (F.numbers reg.now)) }
 {
-    for i in 0..count(reg) {
-        if bad_footprint(g, reg, i) {
-            return Some(i);
-        }
+    let ahead = ahead_of_bad(g, reg);
+    if ahead < count(reg) {
+        Some(ahead)
+    } else {
+        None
     }
-    None
 }

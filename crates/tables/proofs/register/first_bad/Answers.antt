@@ -1,19 +1,17 @@
--- `tables::register::first_bad` meets its contract: what is left to look at begins with the first bad footprint of all. Assumes nothing.
-use mathlib.Core.Path.{sym, ◌∙◌}
-use Rattle.rules.specs.Register.{footprints, bad_footprints}
-use Rattle.tables.proofs.Footprints.{sought_here, sought_on, sought_out}
+-- `tables::register::first_bad` meets its contract: the first that is met is the first of all. Assumes nothing.
+use Prim.Native.Nat.{◌<◌}
+use Rattle.rules.specs.Register.{count, footprints, bad_footprints}
+use Rattle.tables.proofs.Footprints.{sought_here, sought_out}
 use native.Mathlib.Omega.{arith}
 use Rattle.tables.proofs.register.first_bad.Goals as goal
 
-pub returns-then-bad_footprint : goal.returns-then-bad_footprint
+pub returns-then-ahead-count : goal.returns-then-ahead-count
 unfolding bad_footprints footprints
-returns-then-bad_footprint g c =
-    sought_here _ _ _ c.loop-i.invariant (omega (arith, c.loop-i-test.true, c.count-i-end.ensures)) (sym c.bad_footprint.ensures ∙ c.if-bad_footprint.true)
+returns-then-ahead-count g c =
+    let h : c.ahead_of_bad-ahead.result < count (g.F.Form.numbers c.args.reg.now) = omega (arith, c.if-ahead-count.true, c.count.ensures) in
+    sought_here _ _ _ c.ahead_of_bad-ahead.ensures.sought h (c.ahead_of_bad-ahead.ensures.bad h)
 
-pub loop-i-preserved : goal.loop-i-preserved
-loop-i-preserved g c =
-    sought_on _ _ _ c.loop-i.invariant (omega (arith, c.loop-i-test.true, c.count-i-end.ensures)) (sym c.bad_footprint.ensures ∙ c.if-bad_footprint.false)
-
-pub returns : goal.returns
+pub returns-else-ahead-count : goal.returns-else-ahead-count
 unfolding bad_footprints footprints
-returns g c = sought_out _ _ _ c.loop-i.invariant (omega (arith, c.loop-i-test.false, c.count-i-end.ensures))
+returns-else-ahead-count g c =
+    sought_out _ _ _ c.ahead_of_bad-ahead.ensures.sought (omega (arith, c.if-ahead-count.false, c.count.ensures))

@@ -1,7 +1,0 @@
--- `tables::register::first_bad` meets its contract: what is left to look at begins with the first bad footprint of all. Assumes nothing.
-use Rattle.rules.specs.Register.{count, bad_footprint}
-use Rattle.tables.proofs.Footprints.{Sought}
-use Rattle.tables.proofs.register.first_bad.Given as goal
-
-abbrev pub invariant-loop-i : goal.invariant-loop-i
-invariant-loop-i g l = Sought (bad_footprint l.g (g.F.Form.numbers l.reg)) (count (g.F.Form.numbers l.reg)) l.i
